@@ -1,0 +1,5 @@
+pub mod SignLaws
+pub mod OrderLaws
+pub mod Magnitudes
+pub mod Compared
+pub mod Named
