@@ -1,0 +1,4 @@
+pub mod PairLaws
+pub mod MoveLaws
+pub mod LengthLaws
+pub mod FrameLaws
