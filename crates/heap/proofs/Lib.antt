@@ -2,3 +2,8 @@ pub mod PairLaws
 pub mod MoveLaws
 pub mod LengthLaws
 pub mod FrameLaws
+pub mod IntegerLaws
+pub mod PermutedLaws
+pub mod Sifting
+pub mod HeapLaws
+pub mod Named
