@@ -69,7 +69,7 @@ down-in f (suc m) e h =
     let D = ltb (suc m * up e) (2 ^ suc (emax f) * down e) in
     leb→le (down e) (2 ^ low f) (and-r A C (and-l (A && C) D h))
 
-pow-le-back : (a l : ℕ) → 2 ^ a ≤ 2 ^ l → a ≤ l
+pub pow-le-back : (a l : ℕ) → 2 ^ a ≤ 2 ^ l → a ≤ l
 pow-le-back a l h = elim (eq-zero-or-pos (a - l)) [
   | inl z ↦ omega arith
   | inr p ↦ absurd (lt-irrefl (2 ^ l) (lt-of-lt-of-le (pow-lt {i = l} {j = a} (omega arith)) h))

@@ -6,7 +6,7 @@ use native.Mathlib.Omega.{arith}
 use mathlib.Core.Bool.{Bool, true, false, cond}
 use lib.Dec.{T}
 use lib.IntN.{ℤ}
-use lib.Ieee.{Float, fin, inf, Format, binary32, binary64, top, fits, toBits}
+use lib.Ieee.{Float, fin, Format, top, fits, toBits}
 use lib.Ieee.Bits.{toBits-lt}
 
 pub fits-sign : (f : Format) (s : Bool) (m : ℕ) (e : ℤ) → fits f (fin s m e) ≡ fits f (fin false m e)
@@ -28,11 +28,3 @@ magnitude-lt f m e h =
 pub bits-below-sign : (f : Format) (s : Bool) (m : ℕ) (e : ℤ) → T (fits f (fin s m e)) → toBits f (fin s m e) % top f ≡ toBits f (fin false m e)
 bits-below-sign f true m e h = ap (λ (n : ℕ). n % top f) (sign-bit f true m e) ∙ add-mod-left (top f) (toBits f (fin false m e)) ∙ mod-eq-of-lt (magnitude-lt f m e (rw (fits-sign f true m e) at h))
 bits-below-sign f false m e h = mod-eq-of-lt (magnitude-lt f m e h)
-
--- the same of an infinity
-pub infinity-below-sign : (f : Format) (s : Bool) → toBits f (inf s) % top f ≡ toBits f (inf false)
-unfolding toBits
-infinity-below-sign binary32 true = refl
-infinity-below-sign binary32 false = refl
-infinity-below-sign binary64 true = refl
-infinity-below-sign binary64 false = refl

@@ -1,5 +1,5 @@
 pub mod ChainLaws
-pub mod ClearedLaws
 pub mod CutLaws
+pub mod ExactLaws
 pub mod DistanceLaws
 pub mod Named

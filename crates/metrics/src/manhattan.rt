@@ -3,15 +3,17 @@ ghost use mathlib.Core.Path.{_≡_};
 ghost use lib.ListN.{length};
 ghost use Rattle.metrics.specs.Chain.{total, apart};
 
-// A difference with the sign bit cleared. A NaN has no bits that could be spoken of: it stays.
+// A difference with the sign bit cleared: the greater of d and 0.0 - d, which is one instruction. Taking d from +0.0 rounds
+// nothing, and gives +0.0 for either zero.
 fn gap(x: f32, y: f32) -> f32
     ensures { λ r. ⌜ r ≡ apart x y ⌝ }
 {
     let d = x - y;
-    if d != d {
+    let e = 0.0 - d;
+    if e < d {
         return d;
     }
-    f32::from_bits(f32::to_bits(d) % 0x8000_0000)
+    e
 }
 
 pub fn manhattan_distance(a: &[f32], b: &[f32]) -> f32
