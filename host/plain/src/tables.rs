@@ -93,6 +93,16 @@ impl Tables {
 }
 
 impl Lent<'_> {
+    /// The same tables, lent on.
+    pub fn again(&mut self) -> Lent<'_> {
+        Lent {
+            vectors: self.vectors,
+            levels: self.levels,
+            marks: self.marks,
+            links: self.links,
+        }
+    }
+
     pub fn view(&self) -> View<'_> {
         View {
             vectors: self.vectors,

@@ -48,18 +48,18 @@ impl Call {
 /// A call on an index with this header.
 pub fn random_call(header: &Header, random: &mut Random) -> Call {
     match random.below(20) {
-        0 | 1 => Call::Begin,
-        2..=7 => Call::Add {
+        0 => Call::Begin,
+        1..=6 => Call::Add {
             vector: random_vector(header, random),
             level: random_level(header, random),
         },
-        8..=10 => Call::Build {
+        7..=9 => Call::Build {
             metric: random_metric(header, random),
         },
-        11..=13 => Call::Mark {
+        10..=12 => Call::Mark {
             id: random_id(header, random),
         },
-        14..=17 => {
+        13..=16 => {
             let k = random_k(header, random);
             Call::Search {
                 query: random_vector(header, random),
@@ -135,7 +135,7 @@ fn random_k(header: &Header, random: &mut Random) -> usize {
         3 => built,
         4 => built + 1,
         5 => random.between((0, 512)),
-        _ => random.between((0, 3)),
+        _ => random.between((0, 8)),
     }
 }
 

@@ -17,6 +17,8 @@ pub struct Report {
     pub numbers: BTreeMap<(&'static str, u32), usize>,
     /// Cells of tables and buffers that were compared.
     pub cells: usize,
+    /// Entries that searches listed.
+    pub listed: usize,
     /// The first; nothing is asked after it.
     pub difference: Option<Difference>,
 }
@@ -73,6 +75,7 @@ fn run_round(a: &mut dyn Library, b: &mut dyn Library, seed: u64, report: &mut R
         let key = (call.name(), answers.0.searched.number);
         *report.numbers.entry(key).or_insert(0) += 1;
         report.cells += first.cells() + answers.0.cells();
+        report.listed += answers.0.searched.found;
         if let Some(what) = difference((&first, &answers.0), (&second, &answers.1)) {
             report.difference = Some(Difference {
                 seed,

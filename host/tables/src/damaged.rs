@@ -17,7 +17,12 @@ pub fn damaged(random: &mut Random) -> (Header, Tables) {
         }
         6 => garbage(&mut tables, random),
         7 => change_length(&mut tables, random),
-        _ => change_header(&mut header, random),
+        8 => change_header(&mut header, random),
+        _ => {
+            for _ in 0..random.between((2, 11)) {
+                change_header(&mut header, random);
+            }
+        }
     }
     (header, tables)
 }

@@ -42,10 +42,11 @@ fn nothing_is_found_without_a_mistake() {
     let mut same = mistaken(Refusing::default(), Effect::None);
     let report = compare(&mut Plain, &mut same, 1, ROUNDS);
     println!(
-        "{} rounds, {} calls, {} cells",
+        "{} rounds, {} calls, {} cells, {} listed",
         report.rounds,
         report.calls(),
-        report.cells
+        report.cells,
+        report.listed
     );
     println!("{:?}", report.numbers);
     assert!(report.difference.is_none(), "{:?}", report.difference);
@@ -85,23 +86,19 @@ fn a_bound_off_by_one() {
     }
 }
 
-/// Each two numbers that can apply together, the higher one first; and the rules last of all.
+/// Each two numbers that a call tests one after the other and that can apply together, the higher
+/// one first; and the rules last of all.
 #[test]
 fn another_order_of_tests() {
     let pairs = [
         (1, 2),
         (4, 5),
         (6, 7),
-        (6, 8),
-        (6, 9),
         (7, 8),
-        (7, 9),
         (8, 9),
+        (6, 9),
         (9, 10),
-        (9, 11),
         (10, 11),
-        (6, 10),
-        (6, 11),
         (12, 13),
     ];
     for (low, high) in pairs {
@@ -152,6 +149,7 @@ fn a_wrong_effect() {
         Effect::SearchWroteFirst,
         Effect::PastTheEnd,
         Effect::ZeroWithoutSign,
+        Effect::TiesById,
     ];
     for effect in effects {
         found(&format!("{effect:?}"), Refusing::default(), effect);

@@ -3,6 +3,7 @@
 
 mod refusing;
 
+use plain::distance::order;
 use plain::{Header, Lent, Neighbor};
 pub use refusing::Refusing;
 use tables::{Call, Library, Plain, Searched};
@@ -41,6 +42,8 @@ pub enum Effect {
     PastTheEnd,
     /// A distance of -0.0 loses its sign.
     ZeroWithoutSign,
+    /// Of two equal distances in a row the lower id stands first.
+    TiesById,
 }
 
 pub struct Mistaken {
@@ -70,16 +73,6 @@ impl Mistaken {
     }
 }
 
-/// The same tables, lent on.
-fn again<'a>(tables: &'a mut Lent) -> Lent<'a> {
-    Lent {
-        vectors: tables.vectors,
-        levels: tables.levels,
-        marks: tables.marks,
-        links: tables.links,
-    }
-}
-
 impl Library for Mistaken {
     fn begin(&mut self, header: &mut [u16; 11], mut tables: Lent) -> u32 {
         if let Some(number) = self.other_number(header, &tables, &Call::Begin) {
@@ -90,7 +83,7 @@ impl Library for Mistaken {
         let vectors = tables.vectors.to_vec();
         let bytes = [tables.levels.to_vec(), tables.marks.to_vec()];
         let links = tables.links.to_vec();
-        let number = Plain.begin(header, again(&mut tables));
+        let number = Plain.begin(header, tables.again());
         match self.effect {
             Effect::BeginLeaves(0) => tables.vectors.copy_from_slice(&vectors),
             Effect::BeginLeaves(1) => tables.levels.copy_from_slice(&bytes[0]),
@@ -113,7 +106,7 @@ impl Library for Mistaken {
         }
         let id = header[9] as usize;
         let first = id * vector.len();
-        let number = Plain.add(header, again(&mut tables), vector, level);
+        let number = Plain.add(header, tables.again(), vector, level);
         match self.effect {
             Effect::Id0OwnLevel if number == 0 && id == 0 => tables.levels[0] = level,
             Effect::AddWroteLevel if number == 9 => tables.levels[id] = level,
@@ -130,7 +123,7 @@ impl Library for Mistaken {
         }
         let given = *header;
         let links = tables.links.to_vec();
-        let number = Plain.build(header, again(&mut tables), metric);
+        let number = Plain.build(header, tables.again(), metric);
         match self.effect {
             Effect::BuildStoresNoLinks => tables.links.copy_from_slice(&links),
             Effect::BuildOfNoneKeepsMetric if given[9] == given[10] => *header = given,
@@ -144,7 +137,7 @@ impl Library for Mistaken {
         if let Some(number) = self.other_number(header, &tables, &Call::Mark { id }) {
             return number;
         }
-        let number = Plain.mark(header, again(&mut tables), id);
+        let number = Plain.mark(header, tables.again(), id);
         match self.effect {
             Effect::MarkChangesNothing if number == 0 => tables.marks[id as usize] = 0,
             Effect::MarkToggles if number == 14 => tables.marks[id as usize] = 0,
@@ -181,6 +174,14 @@ impl Library for Mistaken {
             Effect::SearchWroteFirst if number != 0 && !ids.is_empty() => ids[0] = 0,
             // As a C library would. The cell is a guard: it lies in the same allocation.
             Effect::PastTheEnd => unsafe { ids.as_mut_ptr().add(ids.len()).write(0) },
+            Effect::TiesById => {
+                for at in 1..found {
+                    if order(distances[at]) == order(distances[at - 1]) && ids[at] < ids[at - 1] {
+                        ids.swap(at, at - 1);
+                        distances.swap(at, at - 1);
+                    }
+                }
+            }
             Effect::ZeroWithoutSign => {
                 for distance in distances[..found].iter_mut().filter(|d| **d == 0.0) {
                     *distance = 0.0;
