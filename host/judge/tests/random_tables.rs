@@ -1,5 +1,5 @@
-//! The plain reading's answers on tables that no build made are accepted; and on small tables the
-//! judge says of any list what demand 3 says to the letter.
+//! The plain reading's answers are accepted, on tables that no build made and on built ones; and on
+//! small tables the judge says of any list what demand 3 says to the letter.
 
 mod literal;
 
@@ -13,6 +13,8 @@ const TABLES: usize = 30_000;
 #[derive(Debug, Default)]
 struct Met {
     metrics: [usize; 4],
+    by_build: usize,
+    by_no_build: usize,
     short: usize,
     full: usize,
     empty: usize,
@@ -26,6 +28,8 @@ struct Met {
 impl Met {
     fn take(&mut self, asked: &Asked, list: &[Neighbor]) {
         self.metrics[asked.header.metric as usize] += 1;
+        self.by_build += asked.by_build as usize;
+        self.by_no_build += !asked.by_build as usize;
         self.short += (list.len() < asked.k) as usize;
         self.full += (list.len() == asked.k) as usize;
         self.empty += list.is_empty() as usize;
@@ -41,6 +45,8 @@ impl Met {
     fn all(&self) -> bool {
         let [unknown, known @ ..] = self.metrics;
         let counts = [
+            self.by_build,
+            self.by_no_build,
             self.short,
             self.full,
             self.empty,
@@ -64,7 +70,7 @@ fn the_plain_answers_are_accepted() {
         met.take(&asked, &list);
     }
     println!("{met:?}");
-    assert!(met.all(), "{met:?}");
+    assert!(met.all() && met.by_no_build > 20_000, "{met:?}");
 }
 
 /// Lists of true neighbours, right or not: any unmarked ids in order, now and then out of order.

@@ -45,7 +45,8 @@ fn descent(ground: Ground, new: u16) -> u16 {
     let mut nearest = 0;
     let mut least = order(ground.between(nearest, new));
     for level in (own_level + 1..=ground.header.max_level as usize).rev() {
-        // Passes until one moves nowhere. A pass keeps reading the list it began.
+        // 01 does not say how many passes there are. Read as: until one moves nowhere. A pass
+        // keeps reading the list it began.
         loop {
             let begun_at = nearest;
             for id in ground.list(begun_at, level) {

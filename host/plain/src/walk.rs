@@ -42,7 +42,8 @@ impl Walk {
         kept
     }
 
-    /// Takes an unseen id, or leaves it.
+    /// Takes an unseen id, or leaves it. "A marked one is walked through but not kept" is said
+    /// without exception: read as in building too, where only entries are kept although marked.
     fn look_at(
         self,
         ground: Ground,

@@ -8,6 +8,7 @@ pub mod damaged;
 pub mod guarded;
 pub mod library;
 pub mod passing;
+mod sides;
 
 pub use calls::{random_call, Call};
 pub use compare::{compare, Difference, Report};

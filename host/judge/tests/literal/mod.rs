@@ -15,6 +15,18 @@ pub struct Asked {
     pub query: Vec<f32>,
     pub k: usize,
     pub distances: Vec<f32>,
+    pub by_build: bool,
+}
+
+/// The same ids and marks, with lists that a build made.
+fn build_anew(header: &mut Header, tables: &mut Tables) {
+    let marks = std::mem::replace(&mut tables.marks, vec![0; header.capacity as usize]);
+    tables.links.fill(0);
+    header.built = 0;
+    let outcome = plain::build(*header, tables.lend(), header.metric);
+    assert_eq!(outcome.number, 0);
+    *header = outcome.header;
+    tables.marks = marks;
 }
 
 impl Asked {
@@ -27,18 +39,23 @@ impl Asked {
             query,
             k,
             distances,
+            by_build: false,
         }
     }
 
-    /// A random passing table with an id built, a query and a k. Many queries are made of stored
-    /// coordinates, so that distances are equal.
+    /// A random passing table with an id built, a query and a k. Four tables of five were made by
+    /// no build. Many queries are made of stored coordinates, so that distances are equal.
     pub fn random(random: &mut Random) -> Asked {
-        let (header, tables) = loop {
+        let (mut header, mut tables) = loop {
             let (header, tables) = random_passing(random);
             if header.built > 0 {
                 break (header, tables);
             }
         };
+        let by_build = random.percent(20);
+        if by_build {
+            build_anew(&mut header, &mut tables);
+        }
         let used = header.added as usize * header.dimension as usize;
         let stored = &tables.vectors[..used];
         let kind = random.pick(&[Coordinates::Whole(1), Coordinates::Whole(255)]);
@@ -51,7 +68,10 @@ impl Asked {
             0 => random.pick(&[1, 512]),
             _ => random.between((1, 2 + header.built.min(510) as usize)),
         };
-        Asked::new(header, tables, query, k)
+        Asked {
+            by_build,
+            ..Asked::new(header, tables, query, k)
+        }
     }
 
     pub fn neighbor(&self, id: u16) -> Neighbor {

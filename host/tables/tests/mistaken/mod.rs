@@ -61,6 +61,34 @@ impl Mistaken {
         (given != right).then_some(given)
     }
 
+    /// What is done to the two buffers after a search.
+    fn spoil(&self, searched: Searched, ids: &mut [u16], distances: &mut [f32]) {
+        let (number, found) = (searched.number, searched.found);
+        match self.effect {
+            Effect::PastFound(0) if number == 0 && found < ids.len() => ids[found] = 0,
+            Effect::PastFound(1) if number == 0 && found < distances.len() => {
+                distances[found] = 0.0
+            }
+            Effect::SearchWroteFirst if number != 0 && !ids.is_empty() => ids[0] = 0,
+            // As a C library would. The cell is a guard: it lies in the same allocation.
+            Effect::PastTheEnd => unsafe { ids.as_mut_ptr().add(ids.len()).write(0) },
+            Effect::TiesById => {
+                for at in 1..found {
+                    if order(distances[at]) == order(distances[at - 1]) && ids[at] < ids[at - 1] {
+                        ids.swap(at, at - 1);
+                        distances.swap(at, at - 1);
+                    }
+                }
+            }
+            Effect::ZeroWithoutSign => {
+                for distance in distances[..found].iter_mut().filter(|d| **d == 0.0) {
+                    *distance = 0.0;
+                }
+            }
+            _ => {}
+        }
+    }
+
     fn searched(&self, mut searched: Searched, room: usize) -> Searched {
         match self.effect {
             Effect::FoundOneMore if searched.number == 0 && searched.found < room => {
@@ -165,30 +193,7 @@ impl Library for Mistaken {
             return Searched { number, found: 0 };
         }
         let searched = Plain.search(header, tables, query, k, ids, distances);
-        let (number, found) = (searched.number, searched.found);
-        match self.effect {
-            Effect::PastFound(0) if number == 0 && found < ids.len() => ids[found] = 0,
-            Effect::PastFound(1) if number == 0 && found < distances.len() => {
-                distances[found] = 0.0
-            }
-            Effect::SearchWroteFirst if number != 0 && !ids.is_empty() => ids[0] = 0,
-            // As a C library would. The cell is a guard: it lies in the same allocation.
-            Effect::PastTheEnd => unsafe { ids.as_mut_ptr().add(ids.len()).write(0) },
-            Effect::TiesById => {
-                for at in 1..found {
-                    if order(distances[at]) == order(distances[at - 1]) && ids[at] < ids[at - 1] {
-                        ids.swap(at, at - 1);
-                        distances.swap(at, at - 1);
-                    }
-                }
-            }
-            Effect::ZeroWithoutSign => {
-                for distance in distances[..found].iter_mut().filter(|d| **d == 0.0) {
-                    *distance = 0.0;
-                }
-            }
-            _ => {}
-        }
+        self.spoil(searched, ids, distances);
         self.searched(searched, ids.len())
     }
 
