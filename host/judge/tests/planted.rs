@@ -159,13 +159,13 @@ fn wrong_answers_are_refused() {
             let Some(list) = plant(&asked, &answer, &mut random) else {
                 continue;
             };
-            match asked.judge(&list) {
+            match asked.judge(0, &list) {
                 Ok(()) => {
-                    assert!(asked.is_right(&list), "{name}: {list:?}");
+                    assert!(asked.is_right(0, &list), "{name}: {list:?}");
                     still_right += 1;
                 }
                 Err(fault) => {
-                    assert!(!asked.is_right(&list), "{name}: {list:?} {fault:?}");
+                    assert!(!asked.is_right(0, &list), "{name}: {list:?} {fault:?}");
                     chain_counts(&asked, &list, &fault);
                     *refused.entry(name).or_insert(0) += 1;
                     *faults.entry(kind(&fault)).or_insert(0) += 1;

@@ -66,7 +66,12 @@ fn the_plain_answers_are_accepted() {
     for at in 0..TABLES {
         let mut asked = Asked::random(&mut random);
         let list = asked.answer();
-        assert_eq!(asked.judge(&list), Ok(()), "table {at}: {:?}", asked.header);
+        assert_eq!(
+            asked.judge(0, &list),
+            Ok(()),
+            "table {at}: {:?}",
+            asked.header
+        );
         met.take(&asked, &list);
     }
     println!("{met:?}");
@@ -89,6 +94,7 @@ fn any_list(asked: &Asked, random: &mut Random) -> Vec<Neighbor> {
     list
 }
 
+/// From any built id as the entry id.
 #[test]
 fn the_judge_says_what_demand_3_says() {
     let mut random = Random::new(4);
@@ -99,11 +105,12 @@ fn the_judge_says_what_demand_3_says() {
             continue;
         }
         let answer = asked.answer();
-        assert!(asked.is_right(&answer));
+        assert!(asked.is_right(0, &answer));
         for _ in 0..4 {
             let list = any_list(&asked, &mut random);
-            let expected = asked.is_right(&list);
-            assert_eq!(asked.judge(&list).is_ok(), expected, "{list:?}");
+            let entry = random.below(asked.header.built as usize) as u16;
+            let expected = asked.is_right(entry, &list);
+            assert_eq!(asked.judge(entry, &list).is_ok(), expected, "{list:?}");
             right += expected as usize;
             wrong += !expected as usize;
         }

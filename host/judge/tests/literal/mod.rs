@@ -93,13 +93,13 @@ impl Asked {
         records
     }
 
-    pub fn judge(&self, list: &[Neighbor]) -> Result<(), judge::Fault> {
+    pub fn judge(&self, entry: u16, list: &[Neighbor]) -> Result<(), judge::Fault> {
         let view = self.tables.view();
-        judge::judge(&self.header, view, &self.query, self.k, 0, list)
+        judge::judge(&self.header, view, &self.query, self.k, entry, list)
     }
 
-    /// Demand 3, sentence by sentence, with id 0 as the entry id.
-    pub fn is_right(&self, list: &[Neighbor]) -> bool {
+    /// Demand 3, sentence by sentence.
+    pub fn is_right(&self, entry: u16, list: &[Neighbor]) -> bool {
         let listed = |id: u16| list.iter().any(|n| n.id == id);
         let true_one = |n: &Neighbor| {
             n.id < self.header.built && !self.marked(n.id) && n.bits() == self.neighbor(n.id).bits()
@@ -119,21 +119,22 @@ impl Asked {
             }
             if list.len() == self.k {
                 let last = list[self.k - 1].order();
-                order_of(id) >= last || !self.some_chain(id, |inner| order_of(inner) < last)
+                order_of(id) >= last
+                    || !self.some_chain((entry, id), |inner| order_of(inner) < last)
             } else {
-                !self.some_chain(id, |inner| !self.marked(inner))
+                !self.some_chain((entry, id), |inner| !self.marked(inner))
             }
         })
     }
 
-    /// Whether some chain from id 0 to `id` has only such ids between its ends. A chain that comes
+    /// Whether some chain between these ends has only such ids between them. A chain that comes
     /// back to an id can be cut short, so those without a repeat are enough.
-    fn some_chain(&self, id: u16, inner: impl Fn(u16) -> bool) -> bool {
+    fn some_chain(&self, (first, last): (u16, u16), inner: impl Fn(u16) -> bool) -> bool {
         let fits = |chain: &Vec<u16>| {
             let between = chain.get(1..chain.len() - 1).unwrap_or(&[]);
-            chain[chain.len() - 1] == id && between.iter().all(|id| inner(*id))
+            chain[chain.len() - 1] == last && between.iter().all(|id| inner(*id))
         };
-        self.chains(vec![0]).iter().any(fits)
+        self.chains(vec![first]).iter().any(fits)
     }
 
     /// All chains that go on from one, itself among them.
