@@ -40,25 +40,41 @@ pub fn random_passing(random: &mut Random) -> (Header, Tables) {
 
 /// In its bounds, with R1 and R2 kept.
 fn random_header(random: &mut Random) -> Header {
-    let mut numbers = [0; 11];
-    for (number, usual) in numbers.iter_mut().zip(USUAL) {
-        *number = random.between(usual) as u16;
-    }
-    // One of them may be anything, often an end of its range. A capacity far from the usual makes
-    // large tables: it is drawn less often.
-    let at = random.below(16);
-    if at < 8 && (at != 1 || random.percent(25)) {
-        let (low, high) = BOUNDS[at];
-        let any = random.between((low as usize, high as usize)) as u16;
-        numbers[at] = random.pick(&[low, high, any]);
-    }
-    let mut header = Header::of(&numbers);
+    let mut header = random_parameters(random);
     header.added = some_of(header.capacity, random);
     header.built = some_of(header.added, random);
+    // A build of many ids takes long where everything is large.
+    if header.capacity > 100 && header.n_neighbor0 > 8 {
+        header.built = header.built.max(header.added.saturating_sub(2));
+    }
     // With nothing built a metric may be set already, by a build of nothing.
     let least = (header.built > 0) as usize;
     header.metric = random.between((least, 3)) as u16;
     header
+}
+
+/// Usually one of them may be anything, often an end of its range. Now and then all are: with a
+/// small capacity, or, rarely, in tables of millions of cells.
+fn random_parameters(random: &mut Random) -> Header {
+    let mut numbers = [0; 11];
+    for (number, usual) in numbers.iter_mut().zip(USUAL) {
+        *number = random.between(usual) as u16;
+    }
+    let kind = random.below(2_000);
+    let one = random.below(16);
+    for (at, bound) in BOUNDS.iter().enumerate() {
+        let wide = match kind {
+            0 | 1 => true,
+            2..=20 => at != 1,
+            // A large capacity makes large tables: it is drawn less often.
+            _ => at == one && (at != 1 || random.percent(25)),
+        };
+        if wide {
+            let any = random.between((bound.0 as usize, bound.1 as usize)) as u16;
+            numbers[at] = random.pick(&[bound.0, bound.1, any]);
+        }
+    }
+    Header::of(&numbers)
 }
 
 /// From 0 to `most`, mostly in its upper half, often all.
@@ -142,10 +158,11 @@ mod tests {
     fn they_pass() {
         let mut random = Random::new(1);
         let mut ends = [(0, 0); 8];
-        let (mut full, mut empty, mut aloft) = (0, 0, 0);
-        for _ in 0..5_000 {
+        let (mut full, mut empty, mut aloft, mut largest) = (0, 0, 0, 0);
+        for _ in 0..20_000 {
             let (header, tables) = random_passing(&mut random);
             assert_eq!(of_any(&header, tables.view()), 0);
+            largest = largest.max(tables.links.len());
             for (at, bound) in BOUNDS.iter().enumerate() {
                 ends[at].0 += (header.numbers()[at] == bound.0) as usize;
                 ends[at].1 += (header.numbers()[at] == bound.1) as usize;
@@ -160,5 +177,7 @@ mod tests {
         }
         assert!(ends.iter().all(|end| end.0 > 0 && end.1 > 0), "{ends:?}");
         assert!(full > 0 && empty > 0 && aloft > 0);
+        // More cells than a u16 counts, by far.
+        assert!(largest > 1_000_000, "{largest}");
     }
 }

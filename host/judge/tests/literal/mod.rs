@@ -52,7 +52,7 @@ impl Asked {
                 break (header, tables);
             }
         };
-        let by_build = random.percent(20);
+        let by_build = random.percent(20) && header.added <= 100;
         if by_build {
             build_anew(&mut header, &mut tables);
         }
