@@ -1,0 +1,3 @@
+pub mod Params
+pub mod Setters
+pub mod Bounds
