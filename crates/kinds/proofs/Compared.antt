@@ -19,7 +19,7 @@ use Rattle.kinds.proofs.Magnitudes.{larger-bits, equal-bits}
 
 -- ---- the order number of a finite float: its magnitude's bits, under its sign
 
-abbrev bits : ℕ → ℤ → ℕ
+abbrev pub bits : ℕ → ℤ → ℕ
 bits m e = toBits binary32 (fin false m e)
 
 abbrev under : Bool → ℕ → ℤ
@@ -55,13 +55,13 @@ zero-bits = refl
 
 -- a magnitude of 0 has the bits 0, and no other has
 module _ (m : ℕ) (e : ℤ) (k : ℕ) (p : 0 < k) (h : T (fits binary32 (fin false m e))) where
-  nothing : m * up e * k ≡ 0 → bits m e ≡ 0
+  pub nothing : m * up e * k ≡ 0 → bits m e ≡ 0
   nothing z = elim (eq-zero-or-pos m) [
     | inl n ↦ equal-bits binary32 m 0 e (pos 0) h zero-value (rw n (mul-one (0 * up e) ∙ zero-mul (up e) ∙ sym (zero-mul (down e)))) ∙ zero-bits
     | inr n ↦ absurd (omega (arith, mul-pos (mul-pos n (up-pos e)) p))
   ]
 
-  something : 0 < m * up e * k → 0 < bits m e
+  pub something : 0 < m * up e * k → 0 < bits m e
   something z = elim (eq-zero-or-pos m) [
     | inl n ↦ absurd (lt-irrefl 0 (rw (n, zero-mul (up e), zero-mul k) at z))
     | inr n ↦ rw zero-bits at (larger-bits binary32 0 m (pos 0) e zero-value h (rw (zero-mul (down e), mul-one (m * up e)) (mul-pos n (up-pos e))))
