@@ -1,12 +1,14 @@
 -- Where things stand in the four tables.
 use Prim.Native.Nat.{ℕ, _+_, _-_, _*_, _≤_}
-use mathlib.Core.Bool.{Bool, cond, _&&_}
+use mathlib.Core.Path.{_≡_}
+use mathlib.Core.Bool.{Bool, true, cond, _&&_}
 use mathlib.Core.List.{List}
 use lib.Dec.{eqb}
 use lib.Ieee.{Float}
 use lib.ListN.{length, getD, take, drop}
 use Rattle.params.specs.declared.HNSWParams.{HNSWParams}
 use Rattle.params.specs.declared.Header.{Header}
+use Rattle.params.specs.Bounds.{withinBounds}
 
 -- 01: "links, u16, one block per id: a count and `n_neighbor0` slots for level 0, then a count and `n_neighbor` slots for each level from 1 to
 -- `max_level`."
@@ -23,6 +25,13 @@ listStart p id level = id * block p + cond (eqb level 0) 0 (1 + p .«n_neighbor0
 -- the whole list lies within the table
 pub record HasList (p : HNSWParams) (links : List ℕ) (id level : ℕ) : Type 0 where
   pub within : listStart p id level + 1 + slots p level ≤ length links
+
+-- levels and links have their lengths, the parameters lie within their bounds, and no more ids are built than there is room for
+pub record Shaped (h : Header) (levels links : List ℕ) : Type 0 where
+  pub bounded : withinBounds h ≡ true
+  pub levels-length : length levels ≡ h .params .«max_item»
+  pub links-length : length links ≡ h .params .«max_item» * block (h .params)
+  pub counted : h .built ≤ h .params .«max_item»
 
 unfoldable pub countAt : HNSWParams → List ℕ → ℕ → ℕ → ℕ
 countAt p links id level = getD links (listStart p id level) 0

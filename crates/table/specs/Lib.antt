@@ -1,3 +1,4 @@
 pub mod First
 pub mod Layout
 pub mod Rules
+pub mod Verdict
