@@ -4,3 +4,5 @@ pub mod Coordinates
 pub mod EveryLaws
 pub mod FirstLaws
 pub mod ShapeLaws
+pub mod TestLaws
+pub mod PassingLaws

@@ -63,3 +63,12 @@ ownerVerdict rule h levels links rest =
 unfoldable pub verdict6to9 : Header → List ℕ → List ℕ → Verdict
 verdict6to9 h levels links =
     ownerVerdict 6 h levels links (ownerVerdict 7 h levels links (ownerVerdict 8 h levels links (ownerVerdict 9 h levels links Passes)))
+
+-- what the first test answers, unless it passes
+abbrev pub andThen : Verdict → Verdict → Verdict
+andThen Passes rest = rest
+andThen (Breaks rule id level) rest = Breaks rule id level
+
+-- R1 to R9, in 01's order
+unfoldable pub verdictOf : Header → List Float → List ℕ → List ℕ → List ℕ → Verdict
+verdictOf h vectors levels marks links = andThen (verdict1 h) (andThen (verdict2to5 h vectors levels marks) (verdict6to9 h levels links))
