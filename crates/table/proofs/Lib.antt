@@ -4,5 +4,9 @@ pub mod Coordinates
 pub mod EveryLaws
 pub mod FirstLaws
 pub mod ShapeLaws
+pub mod PadLaws
+pub mod ApartLaws
+pub mod WritingLaws
+pub mod ReplaceLaws
 pub mod TestLaws
 pub mod PassingLaws

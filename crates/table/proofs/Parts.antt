@@ -12,7 +12,7 @@ module _ {A : Type 0} where
   short : (n : ℕ) (xs : List A) → length (take n xs) ≤ n
   short n xs = omega (arith, length-take n xs)
 
-  drop-take : (c n : ℕ) (xs : List A) → drop c (take n xs) ≡ take (n - c) (drop c xs)
+  pub drop-take : (c n : ℕ) (xs : List A) → drop c (take n xs) ≡ take (n - c) (drop c xs)
   drop-take zero n xs = let e : n - 0 ≡ n = omega arith in rw e
   drop-take (suc c) zero xs = let e : 0 - suc c ≡ 0 = omega arith in rw e
   drop-take (suc c) (suc n) [] = sym (take-nil (suc n - suc c))

@@ -15,7 +15,7 @@ use Rattle.params.proofs.BoundLaws.{Within, bounds-hold}
 use Rattle.table.specs.Layout.{block, slots, listStart, HasList, Shaped, lengthsHold}
 
 -- a list lies within its id's block
-in-block : (p : HNSWParams) (level : ℕ) → level ≤ p .«max_level» → cond (eqb level 0) 0 (1 + p .«n_neighbor0» + (level - 1) * (1 + p .«n_neighbor»)) + 1 + slots p level ≤ block p
+pub in-block : (p : HNSWParams) (level : ℕ) → level ≤ p .«max_level» → cond (eqb level 0) 0 (1 + p .«n_neighbor0» + (level - 1) * (1 + p .«n_neighbor»)) + 1 + slots p level ≤ block p
 unfolding block
 in-block p level h = elim (eq-zero-or-pos level) [
   | inl z ↦ rw (eq-eqb level 0 z) (omega arith)

@@ -1,11 +1,11 @@
 -- Where things stand in the four tables.
-use Prim.Native.Nat.{ℕ, _+_, _-_, _*_, _≤_}
+use Prim.Native.Nat.{ℕ, zero, suc, _+_, _-_, _*_, _≤_}
 use mathlib.Core.Path.{_≡_}
 use mathlib.Core.Bool.{Bool, true, cond, _&&_}
-use mathlib.Core.List.{List}
+use mathlib.Core.List.{List, [], _∷_, _++_}
 use lib.Dec.{eqb}
 use lib.Ieee.{Float}
-use lib.ListN.{length, getD, take, drop}
+use lib.ListN.{length, getD, set, take, drop}
 use Rattle.params.specs.declared.HNSWParams.{HNSWParams}
 use Rattle.params.specs.declared.Header.{Header}
 use Rattle.params.specs.Bounds.{withinBounds}
@@ -46,6 +46,24 @@ listAt p links id level = take (countAt p links id level) (slotsAt p links id le
 -- the slots past a list's count
 unfoldable pub slackAt : HNSWParams → List ℕ → ℕ → ℕ → List ℕ
 slackAt p links id level = drop (countAt p links id level) (slotsAt p links id level)
+
+-- the ids, and nothing in the slots behind them
+unfoldable pub padded : ℕ → List ℕ → List ℕ
+padded zero ids = []
+padded (suc n) [] = 0 ∷ padded n []
+padded (suc n) (x ∷ ids) = x ∷ padded n ids
+
+-- a list that holds these ids and no other
+unfoldable pub replaced : HNSWParams → List ℕ → ℕ → ℕ → List ℕ → List ℕ
+replaced p links id level ids =
+    take (listStart p id level) links
+    ++ (length ids ∷ padded (slots p level) ids)
+    ++ drop (listStart p id level + 1 + slots p level) links
+
+-- one more id behind those that a list holds
+unfoldable pub appended : HNSWParams → List ℕ → ℕ → ℕ → ℕ → List ℕ
+appended p links id level x =
+    set (set links (listStart p id level + 1 + countAt p links id level) x) (listStart p id level) (countAt p links id level + 1)
 
 -- 01: "Four lent buffers, of exactly these lengths: vectors, capacity x dimension f32; levels and marks, capacity bytes each; links"
 unfoldable pub lengthsHold : Header → ℕ → ℕ → ℕ → ℕ → Bool

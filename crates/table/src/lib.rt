@@ -4,6 +4,7 @@ pub mod lists;
 pub mod owners;
 pub mod places;
 pub mod rules;
+pub mod writing;
 
 use kinds::Id;
 use kinds::Level;
