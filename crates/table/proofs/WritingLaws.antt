@@ -1,16 +1,15 @@
 -- What writing a list does to the lists of the link table. Assumes nothing.
 use mathlib.Core.Path.{_≡_, refl, sym, ap, _∙_}
-use mathlib.Core.Logic.{inl, inr, _≢_}
-use Prim.Native.Nat.{ℕ, _+_, _-_, _≤_, _<_}
+use Prim.Native.Nat.{ℕ, _+_, _≤_, _<_}
 use native.Mathlib.Omega.{arith}
 use native.Mathlib.Numerals.{add-one}
 use mathlib.Core.Bool.{Bool, true, false, cond}
 use mathlib.Core.List.{List, [], _∷_, _++_}
 use lib.Dec.{eqb}
 use lib.ListN.{length, getD, set, take, drop, length-set, length-take, length-drop}
-use lib.Seq.{getD-set-same, getD-set-other, take-set-le, take-set-lt, take-suc-set, drop-set-lt, drop-set-add}
+use lib.Seq.{getD-set-same, take-set-le, take-set-lt, take-suc-set, drop-set-lt, drop-set-add}
 use Rattle.params.specs.declared.HNSWParams.{HNSWParams}
-use Rattle.table.proofs.ApartLaws.{Outside, place-apart}
+use Rattle.table.proofs.ApartLaws.{listEnd}
 use Rattle.table.specs.Layout.{slots, listStart, HasList, countAt, slotsAt, listAt, appended}
 
 -- the count, where the code reads it
@@ -60,38 +59,18 @@ appended-list p links id level x h f =
     rw (appended-count p links id level x h, appended-slots p links id level x f, add-one c)
     (take-suc-set (slotsAt p links id level) c x (omega (arith, length-slots p links id level h)))
 
--- ---- every other list stays as it is
+-- ---- nothing outside of the list is written
 
-pub outside-count : (p : HNSWParams) (links : List ℕ) (id level i x : ℕ) → Outside p id level i → countAt p (set links i x) id level ≡ countAt p links id level
-unfolding countAt
-outside-count p links id level i x o = elim o [
-  | inl b ↦ getD-set-other links i (listStart p id level) x 0 (λ e. omega arith)
-  | inr b ↦ getD-set-other links i (listStart p id level) x 0 (λ e. omega arith)
-]
-
--- a write past the part that is looked at
-past : (s n i x : ℕ) (links : List ℕ) → s + n ≤ i → take n (drop s (set links i x)) ≡ take n (drop s links)
-past s n i x links h =
-    let k : i ≡ s + (i - s) = omega arith in
-    ap (λ (j : ℕ). take n (drop s (set links j x))) k
-    ∙ ap (take n) (drop-set-add s links (i - s) x)
-    ∙ take-set-le n (drop s links) (i - s) x (omega arith)
-
-pub outside-slots : (p : HNSWParams) (links : List ℕ) (id level i x : ℕ) → Outside p id level i → slotsAt p (set links i x) id level ≡ slotsAt p links id level
-unfolding slotsAt
-outside-slots p links id level i x o = elim o [
-  | inl b ↦ ap (take (slots p level)) (drop-set-lt (listStart p id level + 1) links i x (omega arith))
-  | inr b ↦ past (listStart p id level + 1) (slots p level) i x links b
-]
-
-pub outside-list : (p : HNSWParams) (links : List ℕ) (id level i x : ℕ) → Outside p id level i → listAt p (set links i x) id level ≡ listAt p links id level
-unfolding listAt
-outside-list p links id level i x o = rw (outside-count p links id level i x o, outside-slots p links id level i x o)
-
-pub appended-elsewhere : (p : HNSWParams) (links : List ℕ) (id level x id' level' : ℕ) → countAt p links id level < slots p level → level ≤ p .«max_level» → level' ≤ p .«max_level» → (id ≡ id' → level ≢ level') → listAt p (appended p links id level x) id' level' ≡ listAt p links id' level'
+pub appended-before : (p : HNSWParams) (links : List ℕ) (id level x : ℕ) → take (listStart p id level) (appended p links id level x) ≡ take (listStart p id level) links
 unfolding appended
-appended-elsewhere p links id level x id' level' f l l' other =
+appended-before p links id level x =
     let s = listStart p id level in
     let c = countAt p links id level in
-    outside-list p (set links (s + 1 + c) x) id' level' s (c + 1) (place-apart p id level id' level' s l l' other (omega arith) (omega arith))
-    ∙ outside-list p links id' level' (s + 1 + c) x (place-apart p id level id' level' (s + 1 + c) l l' other (omega arith) (omega arith))
+    take-set-le s (set links (s + 1 + c) x) s (c + 1) (omega arith) ∙ take-set-le s links (s + 1 + c) x (omega arith)
+
+pub appended-behind : (p : HNSWParams) (links : List ℕ) (id level x : ℕ) → countAt p links id level < slots p level → drop (listEnd p id level) (appended p links id level x) ≡ drop (listEnd p id level) links
+unfolding appended
+appended-behind p links id level x f =
+    let s = listStart p id level in
+    let c = countAt p links id level in
+    drop-set-lt (listEnd p id level) (set links (s + 1 + c) x) s (c + 1) (omega arith) ∙ drop-set-lt (listEnd p id level) links (s + 1 + c) x (omega arith)
