@@ -1,4 +1,6 @@
 // Prints how far (1,2) and (4,-2) lie apart under each metric: the bits of the distance, as a hexadecimal number.
+#![tactic(auto)]
+
 use libc::STDOUT_FILENO;
 use metrics::Metric;
 

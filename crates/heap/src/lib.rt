@@ -1,5 +1,7 @@
 // hora's heap.rs: a binary heap with the greatest on top, by index moves on two lent arrays that hold the two parts of a Neighbor.
 // The heap is the first `len` entries. hora's `start` and `pos`, 0 in every call that is used here, are left out.
+#![tactic(auto)]
+
 ghost use Rattle.std.specs.Prelude.{◌≡◌, ◌++◌, ◌+◌, ◌-◌, ◌<◌, ◌≤◌, length, get_or, set};
 ghost use Rattle.std.specs.Int.Signed.{lt_z, le_z};
 ghost use Rattle.heap.specs.Moves.{greater, sifted, sunk, settled, push, pop, sort};
@@ -8,7 +10,7 @@ ghost use Rattle.heap.specs.Neighbors.{key_of, none, pairs, held, behind};
 use kinds::{Id, Order};
 
 // An id and its distance. Ids never break ties.
-#[derive(Drop)]
+#[derive(Clone, Copy)]
 pub struct Neighbor {
     pub id: Id,
     pub distance: f32,

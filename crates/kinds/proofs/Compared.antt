@@ -1,8 +1,8 @@
 -- What ties the order number to the Rust, which compares floats: on finite floats that fit binary32 the order numbers
 -- are in the order of the floats (`less_as_floats`, `at_most_as_floats`), and equal exactly when the floats are (`equal_as_floats`). Assumes nothing.
-use mathlib.Core.Path.{◌≡◌, refl, sym, ap, subst, ◌∙◌}
+use mathlib.Core.Path.{◌≡◌, refl, sym, ap, ◌∙◌}
 use mathlib.Core.Logic.{◌⊎◌, inl, inr, ◌↔◌}
-use Prim.Native.Nat.{ℕ, zero, suc, ◌+◌, ◌-◌, ◌*◌, ◌%◌, ◌^◌, ◌≤◌, ◌<◌}
+use Prim.Native.Nat.{ℕ, zero, suc, ◌+◌, ◌-◌, ◌*◌, ◌^◌, ◌≤◌, ◌<◌}
 use native.Mathlib.Nat.{lt_irrefl, eq-zero-or-pos, mul-pos, zero-mul, mul-one}
 use native.Mathlib.Omega.{arith}
 use mathlib.Core.Bool.{Bool, true, false, not, ◌&&◌, ◌||◌, cond}
@@ -13,7 +13,7 @@ use lib.Signed.{lt_z, le_z}
 use lib.Ieee.{Float, nan, inf, fin, binary32, up, down, is_nan, fits, to_bits, below, level, lt, eq, le}
 use lib.Ieee.Fits.{up_pos, down_pos, and_i, and_l, and_r}
 use lib.Ieee.Scale.{finite}
-use Rattle.kinds.specs.Order.{order_of, signed}
+use Rattle.kinds.specs.Order.{order_of}
 use Rattle.kinds.proofs.SignLaws.{fits_sign, sign_bit, magnitude_lt, bits_below_sign}
 use Rattle.kinds.proofs.Magnitudes.{larger_bits, equal_bits}
 

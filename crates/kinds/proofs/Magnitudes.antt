@@ -1,18 +1,18 @@
 -- Of two floats that are not negative the larger has the larger bits, and equal ones have equal bits, in either format.
 -- A magnitude is counted in the format's smallest values, and its bits grow with that count. Two values that differ
 -- have bits that differ, since the bits can be read back. Assumes nothing.
-use mathlib.Core.Path.{◌≡◌, refl, sym, ap, subst, ◌∙◌}
+use mathlib.Core.Path.{◌≡◌, refl, sym, ap, ◌∙◌}
 use mathlib.Core.Logic.{◌⊎◌, inl, inr}
 use Prim.Native.Nat.{ℕ, zero, suc, ◌+◌, ◌-◌, ◌*◌, ◌/◌, ◌%◌, ◌^◌, ◌≤◌, ◌<◌}
-use native.Mathlib.Nat.{lt_of_le_of_lt, lt_of_lt_of_le, lt_irrefl, le_of_eq, le_trans, eq-zero-or-pos, eq-or-lt_of_le, zero-add, zero-mul, one-mul, mul-one, mul_assoc, mul_right_comm, mul_comm, mul-pos, suc-mul, mul-le-mul_right, mul-lt-mul_of_pos_right, lt_of_mul-lt-mul_right, eq_of_mul-eq-mul_right, mul-div_cancel, le-div_iff_mul-le, div-one}
+use native.Mathlib.Nat.{lt_of_le_of_lt, lt_of_lt_of_le, lt_irrefl, eq-zero-or-pos, eq-or-lt_of_le, zero-add, one-mul, mul-one, mul_assoc, mul_right_comm, mul_comm, mul-pos, suc-mul, mul-le-mul_right, mul-lt-mul_of_pos_right, lt_of_mul-lt-mul_right, eq_of_mul-eq-mul_right, mul-div_cancel, le-div_iff_mul-le, div-one}
 use native.Mathlib.Omega.{arith}
-use mathlib.Core.Bool.{Bool, true, false, ◌&&◌}
+use mathlib.Core.Bool.{false, ◌&&◌}
 use lib.Dec.{T, leb, ltb, eqb, leb→le, eqb→eq}
 use lib.IntN.{ℤ, pos, negsuc}
 use lib.Pow.{pow-add, pow_pos, pow-lt, shr_mono}
 use lib.Ieee.{Float, nan, inf, fin, Format, binary32, binary64, prec, emax, low, hid, up, down, size, fits, to_bits, of_bits}
 use lib.Ieee.Digits.{size-lt, size-le, size_reaches}
-use lib.Ieee.Fits.{kept-lt, up_pos, down_pos, and_l, and_r}
+use lib.Ieee.Fits.{kept-lt, down_pos, and_l, and_r}
 use lib.Ieee.Bits.{of_bits-to_bits}
 
 -- ---- the bits, by a count of smallest values

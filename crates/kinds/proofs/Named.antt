@@ -2,9 +2,8 @@
 use mathlib.Core.Path.{◌≡◌, refl, sym, ap, ◌∙◌}
 use Prim.Native.Nat.{ℕ}
 use mathlib.Core.Bool.{Bool, true, false, not}
-use mathlib.Core.List.{List, [], ◌∷◌}
 use lib.Dec.{T}
-use lib.IntN.{ℤ, pos, negsuc, neg_ℤ, neg_ℤ-neg_ℤ}
+use lib.IntN.{ℤ, pos, neg_ℤ, neg_ℤ-neg_ℤ}
 use lib.Ieee.{Float, nan, inf, fin, binary32, neg, is_nan, fits, to_bits, of_bits}
 use Rattle.kinds.specs.Order.{order_of}
 use Rattle.kinds.proofs.SignLaws.{fits_sign}

@@ -1,11 +1,11 @@
 -- What the order number of a float is, by its bits: what the proof of `Order::of` cites. Assumes nothing.
-use mathlib.Core.Path.{◌≡◌, refl, sym, ap, subst, ◌∙◌}
+use mathlib.Core.Path.{◌≡◌, refl, sym, subst, ◌∙◌}
 use Prim.Native.Nat.{ℕ, zero, suc, ◌%◌, ◌^◌, ◌≤◌, ◌<◌}
 use native.Mathlib.Omega.{arith}
-use mathlib.Core.Bool.{Bool, true, false, not, cond}
-use lib.Dec.{T, leb}
+use mathlib.Core.Bool.{true, false, not}
+use lib.Dec.{T}
 use borrow.Author.Tests.{le-leb, lt-leb}
-use lib.IntN.{ℤ, pos, negsuc, neg_ℤ, ◌-ℤ◌, +ℤ_idl}
+use lib.IntN.{ℤ, pos, neg_ℤ, ◌-ℤ◌, +ℤ_idl}
 use lib.Ieee.{Float, nan, inf, fin, binary32, is_nan, ne, to_bits}
 use lib.Ieee.Compare.{differs_from_itself, nan_differs}
 use denote.Floats.{passes}

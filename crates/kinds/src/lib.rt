@@ -1,20 +1,21 @@
 // Three kinds of number, each a type of its own, so that none is passed in another's place.
-ghost use Rattle.std.specs.Prelude.{◌≡◌, neg_ℤ};
+#![tactic(auto)]
+
+ghost use Rattle.std.specs.Prelude.{◌≡◌, neg_ℤ, FitsSigned};
 ghost use Rattle.std.specs.Int.Signed.{lt_z, le_z};
 ghost use Rattle.std.specs.Int.{w32};
-ghost use Rattle.std.proofs.Common.{SFits};
 ghost use Rattle.kinds.specs.Order.{order_of};
 
 // By which distances are compared: the low 31 bits of the float, negated if the sign bit is set.
-#[derive(Drop)]
+#[derive(Clone, Copy)]
 pub struct Order(pub i32);
 
 // A vector's place in the tables.
-#[derive(Drop)]
+#[derive(Clone, Copy)]
 pub struct Id(pub u16);
 
 // A layer of the graph: 0 is the one that holds every id.
-#[derive(Drop)]
+#[derive(Clone, Copy)]
 pub struct Level(pub u8);
 
 impl Order {
@@ -36,7 +37,7 @@ impl Order {
 
     // The candidate heap's order, nearest on top. Of the 32-bit numbers only the least has no negation, and no float has it.
     pub fn negated(self) -> Order
-        requires { SFits w32 (neg_ℤ self.0) }
+        requires { FitsSigned w32 (neg_ℤ self.0) }
         ensures { result ≡ record { 0 = neg_ℤ self.0 } }
     {
         Order(-self.0)

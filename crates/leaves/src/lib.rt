@@ -1,4 +1,6 @@
 // The leaves as C functions, to be run and measured beside the Rust. They are no part of the library's interface.
+#![tactic(auto)]
+
 ghost use Rattle.std.specs.Prelude.{◌≡◌, ◌++◌, ◌+◌, ◌-◌, ◌<◌, ◌≤◌, length};
 ghost use Rattle.heap.specs.Moves.{push, pop, sort};
 ghost use Rattle.heap.specs.Neighbors.{key_of, none, pairs, held, behind};

@@ -1,7 +1,7 @@
 -- What holds of every distance, whatever the metric and the vectors: it is finite, and it is an f32. Assumes nothing.
 use mathlib.Core.Path.{◌≡◌, refl}
 use Prim.Native.Nat.{◌^◌, ◌<◌}
-use mathlib.Core.Bool.{Bool, true, false, not}
+use mathlib.Core.Bool.{true, false, not}
 use mathlib.Core.List.{List, [], ◌∷◌}
 use lib.Dec.{T}
 use mathlib.Core.Logic.{◌↔◌}

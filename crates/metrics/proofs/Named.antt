@@ -1,8 +1,8 @@
 -- The distances that 01 names, computed on the definitions that the contracts cite. Assumes nothing.
 use mathlib.Core.Path.{◌≡◌, refl}
 use Prim.Native.Nat.{ℕ}
-use mathlib.Core.List.{List, [], ◌∷◌, map}
-use lib.Ieee.{Float, binary32, to_bits, of_bits, add, sub, mul, neg}
+use mathlib.Core.List.{[], ◌∷◌}
+use lib.Ieee.{binary32, to_bits, of_bits, add, sub, mul, neg}
 use Rattle.metrics.specs.declared.Metric.{Metric}
 use Rattle.metrics.specs.declared.Metric.TheVariants.{Manhattan, DotProduct, Euclidean}
 use Rattle.metrics.specs.Chain.{chain, cleared}

@@ -1,4 +1,6 @@
 // Distances between vectors: hora's metrics.rs, for f32 and the three metrics that are kept.
+#![tactic(auto)]
+
 pub mod cut;
 pub mod dot;
 pub mod euclidean;
@@ -8,7 +10,7 @@ ghost use Rattle.std.specs.Prelude.{◌≡◌, length};
 ghost use Rattle.metrics.specs.Distance.{number_of, metric_of, measured, distance_of};
 
 // In hora's order, which is that of their numbers. CosineSimilarity and Angular have a number and no distance here.
-#[derive(Drop)]
+#[derive(Clone, Copy)]
 pub enum Metric {
     Unknown,
     Manhattan,
@@ -19,7 +21,7 @@ pub enum Metric {
 }
 
 // A distance is always finite.
-#[derive(Drop)]
+#[derive(Clone, Copy)]
 pub struct Distance {
     pub value: f32,
 }

@@ -1,7 +1,7 @@
 -- What `within_bounds` says, as bounds. Assumes nothing.
-use mathlib.Core.Path.{◌≡◌, refl, sym, ap, subst, ◌∙◌}
+use mathlib.Core.Path.{◌≡◌, sym, subst}
 use Prim.Native.Nat.{ℕ, ◌≤◌}
-use mathlib.Core.Bool.{Bool, true, false, ◌&&◌}
+use mathlib.Core.Bool.{true, ◌&&◌}
 use lib.Dec.{T, leb, leb→le}
 use lib.Ieee.Fits.{and_l, and_r}
 use Rattle.params.specs.declared.Header.{Header}

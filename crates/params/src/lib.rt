@@ -1,11 +1,13 @@
 // hora's hnsw_params.rs, and the header of an index: eleven numbers.
+#![tactic(auto)]
+
 ghost use Rattle.std.specs.Prelude.{◌≡◌};
 ghost use Rattle.params.specs.Bounds.{within, within_bounds};
 ghost use Rattle.params.specs.Params.{defaults, begun};
 ghost use Rattle.params.specs.Setters.{with_max_item, with_n_neighbor, with_n_neighbor0, with_max_level, with_ef_build, with_ef_search, with_has_deletion};
 
 // Every number that a caller can give is held; bounds are tested by the calls.
-#[derive(Drop)]
+#[derive(Clone, Copy)]
 pub struct HNSWParams {
     pub max_item: u16,
     pub n_neighbor: u16,
@@ -103,7 +105,7 @@ impl HNSWParams {
 }
 
 // What an index is told of beside its tables, in this order: dimension, the seven parameters, metric, added, built.
-#[derive(Drop)]
+#[derive(Clone, Copy)]
 pub struct Header {
     pub dimension: u16,
     pub params: HNSWParams,
@@ -136,6 +138,7 @@ impl Header {
     }
 
     // The dimension and the parameters lie within their bounds.
+    #[tactic(auto, unfolding(crate::specs::Bounds::within_bounds))]
     pub fn is_within_bounds(self) -> bool
         ensures { result ≡ within_bounds self }
     {

@@ -1,4 +1,6 @@
 // The four lent tables: where each list stands in the link table, and the rules R1 to R9.
+#![tactic(auto)]
+
 pub mod layout;
 pub mod lists;
 pub mod owners;
@@ -15,7 +17,7 @@ use kinds::{Id, Level};
 use params::Header;
 
 // What the test of the rules answers: the first broken rule, the lowest id concerned, and for R6 to R9 the lowest level of that id.
-#[derive(Drop)]
+#[derive(Clone, Copy)]
 pub enum Verdict {
     Passes,
     Breaks(u8, Id, Level),
