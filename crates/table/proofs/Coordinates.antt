@@ -1,6 +1,6 @@
 -- The two tests of a coordinate. Assumes nothing.
-use mathlib.Core.Path.{◌≡◌, refl, sym, ap, subst, ◌∙◌}
-use mathlib.Core.Logic.{◌⊎◌, inl, inr}
+use mathlib.Core.Path.{◌≡◌, refl, sym, ap, ◌∙◌}
+use mathlib.Core.Logic.{inl, inr}
 use Prim.Native.Nat.{ℕ, zero, suc, ◌+◌, ◌-◌, ◌*◌, ◌/◌, ◌%◌, ◌^◌, ◌<◌, compare}
 use native.Mathlib.Nat.{eq-zero-or-pos, mul-pos, zero-mul, mul-one}
 use native.Mathlib.Omega.{arith}
@@ -8,12 +8,12 @@ use mathlib.Core.Bool.{Bool, true, false, not, ◌&&◌, cond, beq}
 use lib.Dec.{T, ltb, eqb}
 use borrow.Author.Tests.{eq-eqb, ne_eqb}
 use denote.Floats.{passes}
-use lib.IntN.{ℤ, pos}
+use lib.IntN.{ℤ}
 use lib.Ieee.{Float, nan, inf, fin, Format, binary32, prec, emax, low, up, down, size, nearest, odd, units, round, sum, add, sub, neg, eq, ne, is_nan, fits, to_bits}
 use lib.Ieee.Compare.{differs_from_itself}
 use lib.Ieee.Fits.{up_pos}
 use lib.Ieee.Scale.{finite}
-use Rattle.kinds.proofs.SignLaws.{fits_sign, sign_bit}
+use Rattle.kinds.proofs.SignLaws.{sign_bit}
 use Rattle.kinds.proofs.Compared.{bits, nothing, something}
 use Rattle.table.specs.Rules.{is_zero}
 

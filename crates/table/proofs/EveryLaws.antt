@@ -1,12 +1,12 @@
 -- A loop that tests each entry of a list: what is left to test decides the whole. Assumes nothing.
-use mathlib.Core.Path.{◌≡◌, refl, sym, ap, ◌∙◌}
-use Prim.Native.Nat.{ℕ, zero, suc, ◌+◌, ◌≤◌, ◌<◌}
+use mathlib.Core.Path.{◌≡◌, refl}
+use Prim.Native.Nat.{ℕ, suc, ◌+◌, ◌≤◌, ◌<◌}
 use native.Mathlib.Omega.{arith}
 use native.Mathlib.Numerals.{add-one}
-use mathlib.Core.Bool.{Bool, true, false, ◌&&◌}
+use mathlib.Core.Bool.{Bool, true, false}
 use mathlib.Core.List.{List, [], ◌∷◌}
 use lib.ListN.{length, get_or, drop, length-drop}
-use lib.Seq.{drop-cons, drop-length}
+use lib.Seq.{drop-cons}
 use Rattle.table.specs.Rules.{every, is_other, distinct}
 
 pub every_passes : (test : ℕ → Bool) (xs : List ℕ) (j : ℕ) (t : Bool) → j < length xs → t ≡ test (get_or xs j 0) → t ≡ true → every test (drop (j + 1) xs) ≡ every test (drop j xs)

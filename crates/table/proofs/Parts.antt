@@ -1,12 +1,12 @@
 -- A list of the link table, and its slots past the count, as parts of the table. Assumes nothing.
-use mathlib.Core.Path.{◌≡◌, refl, sym, ap, ◌∙◌}
-use mathlib.Core.Logic.{◌⊎◌, inl, inr}
-use Prim.Native.Nat.{ℕ, zero, suc, ◌+◌, ◌-◌, ◌≤◌, ◌<◌, min}
+use mathlib.Core.Path.{◌≡◌, sym, ap, ◌∙◌}
+use mathlib.Core.Logic.{inl, inr}
+use Prim.Native.Nat.{ℕ, zero, suc, ◌+◌, ◌-◌, ◌≤◌, min}
 use native.Mathlib.Nat.{eq-zero-or-pos}
 use native.Mathlib.Omega.{arith}
 use mathlib.Core.List.{List, [], ◌∷◌}
 use lib.ListN.{length, take, drop, length-take, drop_of_length-le}
-use lib.Seq.{take-take, take_all, drop-drop, take-nil, drop-nil}
+use lib.Seq.{take-take, take_all, drop-drop, take-nil}
 
 module _ {A : Type 0} where
   short : (n : ℕ) (xs : List A) → length (take n xs) ≤ n

@@ -1,20 +1,18 @@
 -- Each rule's test passes exactly when its proposition holds. Assumes nothing.
-use mathlib.Core.Path.{◌≡◌, refl, sym, ap, subst, ◌∙◌}
-use mathlib.Core.Logic.{◌⊎◌, inl, inr, ◌↔◌}
-use Prim.Native.Nat.{ℕ, zero, suc, ◌+◌, ◌-◌, ◌*◌, ◌<◌, ◌≤◌}
+use mathlib.Core.Path.{◌≡◌, refl, sym, ap, subst}
+use mathlib.Core.Logic.{inl, inr, ◌↔◌}
+use Prim.Native.Nat.{ℕ, zero, suc, ◌*◌, ◌<◌, ◌≤◌}
 use native.Mathlib.Nat.{eq-zero-or-pos}
 use native.Mathlib.Omega.{arith}
-use mathlib.Core.Bool.{Bool, true, false, not, ◌&&◌, ◌||◌, cond}
+use mathlib.Core.Bool.{Bool, true, false, not, ◌&&◌, ◌||◌}
 use mathlib.Core.List.{List, [], ◌∷◌}
 use lib.Dec.{T, leb, ltb, eqb}
-use borrow.Author.Tests.{ltb-true, ltb-false, leb-true, leb-false, eqb-true, eqb-false, lt-ltb, le-ltb, le-leb, lt-leb, eq-eqb, ne_eqb, not-true, not-false}
-use lib.Ieee.{Float, nan}
-use lib.Ieee.Scale.{finite}
+use borrow.Author.Tests.{ltb-true, ltb-false, leb-true, leb-false, eqb-true, eqb-false, lt-ltb, le-leb, eq-eqb, ne_eqb, not-true}
+use lib.Ieee.{Float}
 use lib.ListN.{length, get_or}
 use Rattle.params.specs.declared.Header.{Header}
-use Rattle.table.specs.First.{first_from, first}
 use Rattle.table.specs.Layout.{slots, count_at, list_at, slack_at}
-use Rattle.table.specs.Rules.{r1, r2, r3, r4, r5, r6, r7, r8, r9, is_zero, every, is_nothing, is_other, may_list, distinct}
+use Rattle.table.specs.Rules.{r1, r2, r3, r4, r5, r6, r7, r8, r9, every, is_nothing, is_other, may_list, distinct}
 use Rattle.table.specs.Passing.{R1, R2, R3, R4, R5, R6, R7, R8, R9}
 
 no : {P : Type 0} → false ≡ true → P

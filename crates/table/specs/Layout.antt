@@ -1,5 +1,5 @@
 -- Where things stand in the four tables.
-use Rattle.std.specs.Prelude.{ℕ, zero, suc, ◌+◌, ◌-◌, ◌*◌, ◌≤◌, ◌≡◌, Bool, true, cond, ◌&&◌, List, [], ◌∷◌, ◌++◌, eqb, Float, length, get_or, set, take, drop}
+use Rattle.std.specs.Prelude.{ℕ, zero, suc, ◌+◌, ◌-◌, ◌*◌, ◌≤◌, ◌≡◌, Bool, true, cond, ◌&&◌, List, [], ◌∷◌, ◌++◌, eqb, length, get_or, set, take, drop}
 use Rattle.params.specs.declared.HNSWParams.{HNSWParams}
 use Rattle.params.specs.declared.Header.{Header}
 use Rattle.params.specs.Bounds.{within_bounds}

@@ -1,5 +1,5 @@
 -- The first broken rule in 01's order, and where: the lowest id concerned (a list's owner), and for R6 to R9 the lowest level within that id.
-use Rattle.std.specs.Prelude.{ℕ, ◌+◌, ◌*◌, ◌/◌, Bool, not, cond, List, eqb, ltb, Float}
+use Rattle.std.specs.Prelude.{ℕ, ◌+◌, ◌*◌, ◌/◌, Bool, cond, List, eqb, ltb, Float}
 use Rattle.params.specs.declared.Header.{Header}
 use Rattle.table.specs.declared.Verdict.{Verdict}
 use Rattle.table.specs.declared.Verdict.TheVariants.{Passes, Breaks}

@@ -6,6 +6,7 @@ use kinds::{Id, Level};
 use params::{HNSWParams, Header};
 
 // The entries of the link table that belong to one id.
+#[tactic(auto, unfolding(crate::specs::Layout::block))]
 pub fn block_len(params: HNSWParams) -> usize
     ensures { (result ≡ block params) × (result < 2 ^ 33) }
 {
@@ -23,6 +24,7 @@ pub fn slots_len(params: HNSWParams, level: Level) -> usize
 }
 
 // Where a list's count stands; its slots stand behind it.
+#[tactic(auto, unfolding(crate::specs::Layout::list_start))]
 pub fn list_start(params: HNSWParams, id: Id, level: Level) -> usize
     ensures { result ≡ list_start params id.0 level.0 }
 {
@@ -35,6 +37,7 @@ pub fn list_start(params: HNSWParams, id: Id, level: Level) -> usize
 }
 
 // The four tables have the lengths that the header says.
+#[tactic(auto, unfolding(crate::specs::Layout::lengths_hold))]
 pub fn lengths_hold(
     header: Header,
     vectors: usize,
@@ -58,6 +61,7 @@ pub fn lengths_hold(
 }
 
 // A list's count.
+#[tactic(auto, unfolding(crate::specs::Layout::count_at))]
 pub fn count_at(params: HNSWParams, links: &[u16], id: Id, level: Level) -> usize
     requires { HasList params links.now id.0 level.0 }
     ensures { result ≡ count_at params links.now id.0 level.0 }
@@ -67,6 +71,7 @@ pub fn count_at(params: HNSWParams, links: &[u16], id: Id, level: Level) -> usiz
 }
 
 // The ids that a list holds: at most as many as it has slots.
+#[tactic(auto, unfolding(crate::specs::Layout::list_at, crate::specs::Layout::slots_at))]
 pub fn list_at<'a>(params: HNSWParams, links: &'a [u16], id: Id, level: Level) -> &'a [u16]
     requires { HasList params links.now id.0 level.0 }
     ensures { result.now ≡ list_at params links.now id.0 level.0 }
@@ -78,6 +83,7 @@ pub fn list_at<'a>(params: HNSWParams, links: &'a [u16], id: Id, level: Level) -
 }
 
 // The slots past a list's count.
+#[tactic(auto, unfolding(crate::specs::Layout::slack_at, crate::specs::Layout::slots_at))]
 pub fn slack_at<'a>(params: HNSWParams, links: &'a [u16], id: Id, level: Level) -> &'a [u16]
     requires { HasList params links.now id.0 level.0 }
     ensures { result.now ≡ slack_at params links.now id.0 level.0 }

@@ -7,6 +7,7 @@ use crate::layout;
 use kinds::{Id, Level};
 use params::Header;
 
+#[tactic(auto, unfolding(crate::specs::Rules::r6))]
 pub fn r6_holds(header: Header, levels: &[u8], links: &[u16], id: Id, level: Level) -> bool
     requires { HasList header.params links.now id.0 level.0 × (id.0 < length levels.now) }
     ensures { result ≡ r6 header levels.now links.now id.0 level.0 }
@@ -38,6 +39,7 @@ fn is_nothing(list: &[u16]) -> bool
     true
 }
 
+#[tactic(auto, unfolding(crate::specs::Rules::r7))]
 pub fn r7_holds(header: Header, links: &[u16], id: Id, level: Level) -> bool
     requires { HasList header.params links.now id.0 level.0 }
     ensures { result ≡ r7 header links.now id.0 level.0 }
@@ -74,6 +76,7 @@ fn all_may_be_listed(header: Header, levels: &[u8], list: &[u16], id: Id, level:
     true
 }
 
+#[tactic(auto, unfolding(crate::specs::Rules::r8))]
 pub fn r8_holds(header: Header, levels: &[u8], links: &[u16], id: Id, level: Level) -> bool
     requires { HasList header.params links.now id.0 level.0 × (header.built ≤ length levels.now) }
     ensures { result ≡ r8 header levels.now links.now id.0 level.0 }
@@ -110,6 +113,7 @@ fn is_distinct(list: &[u16]) -> bool
     true
 }
 
+#[tactic(auto, unfolding(crate::specs::Rules::r9))]
 pub fn r9_holds(header: Header, links: &[u16], id: Id, level: Level) -> bool
     requires { HasList header.params links.now id.0 level.0 }
     ensures { result ≡ r9 header links.now id.0 level.0 }

@@ -29,6 +29,7 @@ pub fn r2_holds(header: Header) -> bool
     1 <= header.metric
 }
 
+#[tactic(auto, unfolding(crate::specs::Rules::r3))]
 pub fn r3_holds(header: Header, levels: &[u8], id: Id) -> bool
     requires { id.0 < length levels.now }
     ensures { result ≡ r3 header levels.now id.0 }
@@ -47,6 +48,7 @@ pub fn r3_holds(header: Header, levels: &[u8], id: Id) -> bool
     true
 }
 
+#[tactic(auto, unfolding(crate::specs::Rules::r4))]
 pub fn r4_holds(header: Header, marks: &[u8], id: Id) -> bool
     requires { id.0 < length marks.now }
     ensures { result ≡ r4 header marks.now id.0 }
@@ -84,6 +86,7 @@ pub fn is_zero(x: f32) -> bool
 }
 
 // At the coordinate j of the whole table.
+#[tactic(auto, unfolding(crate::specs::Rules::r5))]
 pub fn r5_holds(header: Header, vectors: &[f32], j: usize) -> bool
     requires { j < length vectors.now }
     ensures { result ≡ r5 header vectors.now j }

@@ -1,0 +1,10 @@
+-- What is left to test decides the whole.
+use Rattle.std.proofs.Common.{◌≡◌, ◌≤◌, ◌-◌, length, drop}
+use Rattle.table.specs.Rules.{every, is_other}
+use Rattle.table.proofs.lists.is_without.Given as goal
+
+abbrev pub invariant-loop-j : goal.invariant-loop-j
+invariant-loop-j l = (l.j ≤ length l.list) × (every (is_other l.x) (drop l.j l.list) ≡ every (is_other l.x) (drop l.from l.list))
+
+abbrev pub decreases-loop-j : goal.decreases-loop-j
+decreases-loop-j l = length l.list - l.j
