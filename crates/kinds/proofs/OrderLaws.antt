@@ -1,5 +1,5 @@
 -- What the order number of a float is, by its bits: what the proof of `Order::of` cites. Assumes nothing.
-use mathlib.Core.Path.{◌≡◌, refl, sym, subst, ◌∙◌}
+use mathlib.Core.Path.{◌≡◌, refl, sym, ap, subst, ◌∙◌}
 use Prim.Native.Nat.{ℕ, zero, suc, ◌%◌, ◌^◌, ◌≤◌, ◌<◌}
 use native.Mathlib.Omega.{arith}
 use mathlib.Core.Bool.{true, false, not}
@@ -12,6 +12,7 @@ use denote.Floats.{passes}
 use mir.Syntax.{w32}
 use mir.Val.{SFits, of_z, to_z}
 use mir.Facts.{to_z-of_z, to_z_pos}
+use Rattle.kinds.specs.declared.Order.{Order}
 use Rattle.kinds.specs.Order.{order_of, signed}
 
 -- the code's `-z`: the bits of 0 - z, read back
@@ -56,3 +57,17 @@ order_plus x h l = not_nan x h ∙ rw (lt-leb (2 ^ 31) (to_bits binary32 x) l)
 -- the sign bit is set
 pub order_minus : (x : Float) → T (not (is_nan x)) → 2 ^ 31 ≤ to_bits binary32 x → order_of x ≡ neg_ℤ (pos (to_bits binary32 x % 2 ^ 31))
 order_minus x h l = not_nan x h ∙ rw (le-leb (2 ^ 31) (to_bits binary32 x) l)
+
+-- ---- what `Order::of` hands back, by its three ways out
+
+abbrev made : ℤ → Order
+made z = record { 0 = z }
+
+pub of_nan : (x : Float) → ne x x ≡ true → made (pos 0) ≡ made (order_of x)
+of_nan x h = ap made (sym (order_nan x h))
+
+pub of_plus : (x : Float) → ne x x ≡ false → to_bits binary32 x < 2 ^ 31 → made (to_z w32 (to_bits binary32 x % 2 ^ 31)) ≡ made (order_of x)
+of_plus x h l = ap made (to_z_pos w32 (omega arith) ∙ sym (order_plus x (no_nan x h) l))
+
+pub of_minus : (x : Float) → ne x x ≡ false → 2 ^ 31 ≤ to_bits binary32 x → made (to_z w32 (of_z w32 (pos 0 -ℤ to_z w32 (to_bits binary32 x % 2 ^ 31)))) ≡ made (order_of x)
+of_minus x h l = ap made (minus_low (to_bits binary32 x % 2 ^ 31) (omega arith) ∙ sym (order_minus x (no_nan x h) l))

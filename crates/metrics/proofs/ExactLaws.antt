@@ -11,7 +11,7 @@ use lib.Pow.{pow-add, pow_pos}
 use lib.Ieee.{Float, nan, inf, fin, Format, binary32, prec, emax, low, up, down, round, sum, add, sub, neg, lt, fits, of_bits}
 use lib.Ieee.Bits.{of_bits-to_bits}
 use lib.Ieee.Exact.{HasValue, round_exact}
-use lib.Ieee.Fits.{round-fits, up_pos, down_pos, and_l, and_r}
+use lib.Ieee.Fits.{round-fits, sub-fits, up_pos, down_pos, and_l, and_r}
 use Rattle.kinds.proofs.SignLaws.{fits_sign}
 use Rattle.kinds.proofs.Magnitudes.{equal_bits, pow_le_back}
 use Rattle.metrics.specs.Chain.{cleared}
@@ -144,3 +144,11 @@ minus_cleared (inf false) h t = no (sym t)
 minus_cleared (fin s zero e) h t = subst (λ (d : ℤ). minus (fin s 0 d) ≡ fin false 0 d) (sym (zero_exponent s e h)) (zero_from_zero s)
 minus_cleared (fin true (suc m) e) h t = zero_minus binary32 true m e h
 minus_cleared (fin false (suc m) e) h t = no (sym t ∙ minus_less m e h)
+
+-- ---- what `gap` hands back
+
+pub gap_plus : (x y : Float) → lt (minus (sub binary32 x y)) (sub binary32 x y) ≡ true → sub binary32 x y ≡ cleared (sub binary32 x y)
+gap_plus x y h = plus_cleared (sub binary32 x y) (sub-fits binary32 x y) h
+
+pub gap_minus : (x y : Float) → lt (minus (sub binary32 x y)) (sub binary32 x y) ≡ false → minus (sub binary32 x y) ≡ cleared (sub binary32 x y)
+gap_minus x y h = minus_cleared (sub binary32 x y) (sub-fits binary32 x y) h

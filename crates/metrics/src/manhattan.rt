@@ -4,6 +4,7 @@ ghost use Rattle.metrics.specs.Chain.{total, apart};
 
 // A difference with the sign bit cleared: the greater of d and 0.0 - d, which is one instruction. Taking d from +0.0 rounds
 // nothing, and gives +0.0 for either zero.
+#[tactic(auto, using(crate::proofs::ExactLaws::gap_plus, crate::proofs::ExactLaws::gap_minus))]
 fn gap(x: f32, y: f32) -> f32
     ensures { result ≡ apart x y }
 {

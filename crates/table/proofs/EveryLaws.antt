@@ -1,9 +1,10 @@
 -- A loop that tests each entry of a list: what is left to test decides the whole. Assumes nothing.
-use mathlib.Core.Path.{◌≡◌, refl}
+use mathlib.Core.Path.{◌≡◌, refl, ap}
 use Prim.Native.Nat.{ℕ, suc, ◌+◌, ◌≤◌, ◌<◌}
 use native.Mathlib.Omega.{arith}
 use native.Mathlib.Numerals.{add-one}
-use mathlib.Core.Bool.{Bool, true, false}
+use mathlib.Core.Bool.{Bool, true, false, not}
+use borrow.Author.Tests.{eq-eqb, ne_eqb}
 use mathlib.Core.List.{List, [], ◌∷◌}
 use lib.ListN.{length, get_or, drop, length-drop}
 use lib.Seq.{drop-cons}
@@ -24,6 +25,13 @@ nothing test (x ∷ xs) e = absurd (omega arith)
 
 pub every_ended : (test : ℕ → Bool) (xs : List ℕ) (j : ℕ) → length xs ≤ j → true ≡ every test (drop j xs)
 every_ended test xs j h = nothing test (drop j xs) (simp length-drop (omega arith))
+
+-- an entry that is x, and one that is not
+pub without_fails : (x : ℕ) (xs : List ℕ) (j : ℕ) → j < length xs → get_or xs j 0 ≡ x → false ≡ every (is_other x) (drop j xs)
+without_fails x xs j h e = every_fails (is_other x) xs j _ h refl (ap not (eq-eqb (get_or xs j 0) x e))
+
+pub without_passes : (x : ℕ) (xs : List ℕ) (j : ℕ) → j < length xs → (get_or xs j 0 ≡ x → ⊥) → every (is_other x) (drop (j + 1) xs) ≡ every (is_other x) (drop j xs)
+without_passes x xs j h e = every_passes (is_other x) xs j _ h refl (ap not (ne_eqb (get_or xs j 0) x e))
 
 pub distinct_passes : (xs : List ℕ) (j : ℕ) (t : Bool) → j < length xs → t ≡ every (is_other (get_or xs j 0)) (drop (j + 1) xs) → t ≡ true → distinct (drop (j + 1) xs) ≡ distinct (drop j xs)
 unfolding distinct

@@ -86,6 +86,7 @@ pub fn r8_holds(header: Header, levels: &[u8], links: &[u16], id: Id, level: Lev
 }
 
 // No entry of the list from `from` on is x.
+#[tactic(auto, using(crate::proofs::EveryLaws::without_fails, crate::proofs::EveryLaws::without_passes, crate::proofs::EveryLaws::every_ended))]
 fn is_without(list: &[u16], from: usize, x: u16) -> bool
     requires { from ≤ length list.now }
     ensures { result ≡ every (is_other x) (drop from list.now) }
