@@ -3,7 +3,7 @@
 use std::path::Path;
 
 fn main() {
-    let folder = Path::new(env!("CARGO_MANIFEST_DIR")).join("../../target/staticlib");
+    let folder = Path::new(env!("CARGO_MANIFEST_DIR")).join("../../crates/leaves/out");
     println!("cargo:rustc-link-search=native={}", folder.display());
     println!(
         "cargo:rerun-if-changed={}",
