@@ -60,6 +60,7 @@ fn greater_child(ids: &[u16], distances: &[f32], child: usize) -> usize
 }
 
 // The entry at pos rises while it is greater than its parent.
+#[tactic(auto, using(crate::proofs::MoveLaws::up_top, crate::proofs::MoveLaws::up_stays, crate::proofs::MoveLaws::up_turn))]
 fn sift_up(ids: &mut [u16], distances: &mut [f32], pos: usize)
     requires { (pos < length ids.old) × (length ids.old ≡ length distances.old) }
     ensures { pairs ids.new distances.new ≡ sifted key_of none (pairs ids.old distances.old) pos }
@@ -80,6 +81,7 @@ fn sift_up(ids: &mut [u16], distances: &mut [f32], pos: usize)
 }
 
 // The first entry sinks among the first `end` while a child is greater.
+#[tactic(auto, using(crate::proofs::MoveLaws::child_low, crate::proofs::MoveLaws::child_high, crate::proofs::MoveLaws::down_stays, crate::proofs::MoveLaws::down_turn, crate::proofs::MoveLaws::last_none, crate::proofs::MoveLaws::last_moves, crate::proofs::MoveLaws::last_stays))]
 fn sift_down_range(ids: &mut [u16], distances: &mut [f32], end: usize)
     requires { (0 < end) × (end ≤ length ids.old) × (length ids.old ≡ length distances.old) }
     ensures { pairs ids.new distances.new ≡ sunk key_of none (pairs ids.old distances.old) end }
