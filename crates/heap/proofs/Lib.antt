@@ -7,3 +7,4 @@ pub mod PermutedLaws
 pub mod Sifting
 pub mod HeapLaws
 pub mod Named
+pub mod NeighborLaws

@@ -1,3 +1,4 @@
 pub mod Moves
 pub mod Neighbors
 pub mod Ordered
+pub mod Lent

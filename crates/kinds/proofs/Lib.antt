@@ -3,3 +3,4 @@ pub mod OrderLaws
 pub mod Magnitudes
 pub mod Compared
 pub mod Named
+pub mod DerivedOrder

@@ -27,9 +27,6 @@ negation_fits : (n : ℕ) → n < 2 ^ 31 → SFits w32 (neg_ℤ (pos n))
 negation_fits zero l = record { sfits = l }
 negation_fits (suc n) l = record { sfits = omega arith }
 
-pub minus_low_fits : (n : ℕ) → n < 2 ^ 31 → SFits w32 (pos 0 -ℤ to_z w32 n)
-minus_low_fits n l = rw (to_z_pos w32 l) (minus_fits (pos n) (negation_fits n l))
-
 pub minus_low : (n : ℕ) → n < 2 ^ 31 → to_z w32 (of_z w32 (pos 0 -ℤ to_z w32 n)) ≡ neg_ℤ (pos n)
 minus_low n l = rw (to_z_pos w32 l) (minus_is (pos n) (negation_fits n l))
 

@@ -2,20 +2,19 @@
 #![tactic(auto)]
 
 ghost use Rattle.std.specs.Prelude.{◌≡◌, neg_ℤ, FitsSigned};
-ghost use Rattle.std.specs.Int.Signed.{lt_z, le_z};
 ghost use Rattle.std.specs.Int.{w32};
 ghost use Rattle.kinds.specs.Order.{order_of};
 
 // By which distances are compared: the low 31 bits of the float, negated if the sign bit is set.
-#[derive(Clone, Copy)]
+#[derive(Clone, Copy, Debug, PartialEq, Eq, PartialOrd, Ord)]
 pub struct Order(pub i32);
 
 // A vector's place in the tables.
-#[derive(Clone, Copy)]
+#[derive(Clone, Copy, Debug, PartialEq, Eq, Hash)]
 pub struct Id(pub u16);
 
 // A layer of the graph: 0 is the one that holds every id.
-#[derive(Clone, Copy)]
+#[derive(Clone, Copy, Debug, PartialEq, Eq, PartialOrd, Ord, Hash)]
 pub struct Level(pub u8);
 
 impl Order {
@@ -42,17 +41,5 @@ impl Order {
         ensures { result ≡ record { 0 = neg_ℤ self.0 } }
     {
         Order(-self.0)
-    }
-
-    pub fn less(self, other: Order) -> bool
-        ensures { result ≡ lt_z self.0 other.0 }
-    {
-        self.0 < other.0
-    }
-
-    pub fn at_most(self, other: Order) -> bool
-        ensures { result ≡ le_z self.0 other.0 }
-    {
-        self.0 <= other.0
     }
 }

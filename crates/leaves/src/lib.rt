@@ -8,7 +8,7 @@ ghost use Rattle.kinds.specs.Order.{order_of};
 ghost use Rattle.metrics.specs.Distance.{metric_of};
 ghost use Rattle.leaves.specs.Alike.{distance_or_largest};
 
-use heap::Neighbor;
+use heap::{BinaryHeap, Neighbor};
 use kinds::{Id, Order};
 use metrics::Metric;
 
@@ -42,15 +42,15 @@ pub extern "C" fn leaves_push(
     requires { (len < length ids.old) × (length ids.old ≡ length distances.old) }
     ensures { pairs ids.new distances.new ≡ push key_of none (held ids.old distances.old len) (record { id = record { 0 = id }; distance = distance }) ++ behind ids.old distances.old (len + 1) }
 {
-    heap::push(
+    let mut heap = BinaryHeap {
         ids,
         distances,
         len,
-        Neighbor {
-            id: Id(id),
-            distance,
-        },
-    );
+    };
+    heap.push(Neighbor {
+        id: Id(id),
+        distance,
+    });
 }
 
 // The id of a greatest entry, and its distance.
@@ -64,7 +64,12 @@ pub extern "C" fn leaves_pop(
     requires { (0 < len) × (len ≤ length ids.old) × (length ids.old ≡ length distances.old) }
     ensures { (result ≡ (pop key_of none (held ids.old distances.old len)).item.id.0) × (distance.new ≡ (pop key_of none (held ids.old distances.old len)).item.distance) × (pairs ids.new distances.new ≡ (pop key_of none (held ids.old distances.old len)).rest ++ behind ids.old distances.old (len - 1)) }
 {
-    let item = heap::pop(ids, distances, len);
+    let mut heap = BinaryHeap {
+        ids,
+        distances,
+        len,
+    };
+    let item = heap.pop();
     *distance = item.distance;
     item.id.0
 }
@@ -74,5 +79,10 @@ pub extern "C" fn leaves_sort(ids: &mut [u16], distances: &mut [f32], len: usize
     requires { (len ≤ length ids.old) × (length ids.old ≡ length distances.old) }
     ensures { pairs ids.new distances.new ≡ sort key_of none len (held ids.old distances.old len) ++ behind ids.old distances.old len }
 {
-    heap::into_sorted_vec(ids, distances, len);
+    let mut heap = BinaryHeap {
+        ids,
+        distances,
+        len,
+    };
+    heap.into_sorted_vec();
 }
