@@ -7,7 +7,7 @@ ghost use Rattle.params.specs.Params.{defaults, begun};
 ghost use Rattle.params.specs.Setters.{with_max_item, with_n_neighbor, with_n_neighbor0, with_max_level, with_ef_build, with_ef_search, with_has_deletion};
 
 // Every number that a caller can give is held; bounds are tested by the calls.
-#[derive(Clone, Copy)]
+#[derive(Clone, Copy, Debug, PartialEq, Eq, Hash)]
 pub struct HNSWParams {
     pub max_item: u16,
     pub n_neighbor: u16,
@@ -16,6 +16,22 @@ pub struct HNSWParams {
     pub ef_build: u16,
     pub ef_search: u16,
     pub has_deletion: bool,
+}
+
+impl Default for HNSWParams {
+    ghost is_default = { λ params. params ≡ defaults };
+
+    fn default() -> HNSWParams {
+        HNSWParams {
+            max_item: 4096,
+            n_neighbor: 32,
+            n_neighbor0: 64,
+            max_level: 20,
+            ef_build: 500,
+            ef_search: 16,
+            has_deletion: false,
+        }
+    }
 }
 
 impl HNSWParams {
@@ -38,20 +54,6 @@ impl HNSWParams {
     pub const MIN_WIDTH: u16 = 1;
 
     pub const MAX_WIDTH: u16 = 512;
-
-    pub fn default() -> HNSWParams
-        ensures { result ≡ defaults }
-    {
-        HNSWParams {
-            max_item: 4096,
-            n_neighbor: 32,
-            n_neighbor0: 64,
-            max_level: 20,
-            ef_build: 500,
-            ef_search: 16,
-            has_deletion: false,
-        }
-    }
 
     pub fn max_item(mut self, new_max_item: u16) -> HNSWParams
         ensures { result ≡ with_max_item new_max_item self }
@@ -105,7 +107,7 @@ impl HNSWParams {
 }
 
 // What an index is told of beside its tables, in this order: dimension, the seven parameters, metric, added, built.
-#[derive(Clone, Copy)]
+#[derive(Clone, Copy, Debug, PartialEq, Eq, Hash)]
 pub struct Header {
     pub dimension: u16,
     pub params: HNSWParams,
@@ -117,10 +119,7 @@ pub struct Header {
 fn is_within(n: u16, low: u16, high: u16) -> bool
     ensures { result ≡ within n low high }
 {
-    if n < low {
-        return false;
-    }
-    n <= high
+    (low..=high).contains(&n)
 }
 
 impl Header {
@@ -143,36 +142,23 @@ impl Header {
         ensures { result ≡ within_bounds self }
     {
         let p = self.params;
-        if !is_within(
+        is_within(
             self.dimension,
             HNSWParams::MIN_DIMENSION,
             HNSWParams::MAX_DIMENSION,
-        ) {
-            return false;
-        }
-        if !is_within(p.max_item, HNSWParams::MIN_ITEM, HNSWParams::MAX_ITEM) {
-            return false;
-        }
-        if !is_within(
-            p.n_neighbor,
-            HNSWParams::MIN_NEIGHBOR,
-            HNSWParams::MAX_NEIGHBOR,
-        ) {
-            return false;
-        }
-        if !is_within(
-            p.n_neighbor0,
-            HNSWParams::MIN_NEIGHBOR,
-            HNSWParams::MAX_NEIGHBOR,
-        ) {
-            return false;
-        }
-        if !is_within(p.max_level, HNSWParams::MIN_LEVEL, HNSWParams::MAX_LEVEL) {
-            return false;
-        }
-        if !is_within(p.ef_build, HNSWParams::MIN_WIDTH, HNSWParams::MAX_WIDTH) {
-            return false;
-        }
-        is_within(p.ef_search, HNSWParams::MIN_WIDTH, HNSWParams::MAX_WIDTH)
+        ) && is_within(p.max_item, HNSWParams::MIN_ITEM, HNSWParams::MAX_ITEM)
+            && is_within(
+                p.n_neighbor,
+                HNSWParams::MIN_NEIGHBOR,
+                HNSWParams::MAX_NEIGHBOR,
+            )
+            && is_within(
+                p.n_neighbor0,
+                HNSWParams::MIN_NEIGHBOR,
+                HNSWParams::MAX_NEIGHBOR,
+            )
+            && is_within(p.max_level, HNSWParams::MIN_LEVEL, HNSWParams::MAX_LEVEL)
+            && is_within(p.ef_build, HNSWParams::MIN_WIDTH, HNSWParams::MAX_WIDTH)
+            && is_within(p.ef_search, HNSWParams::MIN_WIDTH, HNSWParams::MAX_WIDTH)
     }
 }
