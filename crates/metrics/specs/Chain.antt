@@ -4,7 +4,7 @@ use Rattle.std.specs.List.{zip}
 use Rattle.std.specs.Float.{nan, inf, fin, binary32}
 use Rattle.std.specs.Float.Ieee.{add, sub, mul, of_bits}
 
--- one term for each pair of coordinates: the pattern of all zero bits is +0.0
+-- A term for each pair of coordinates is added to the sum so far. The pattern of all zero bits is +0.0.
 abbrev pub total : (Float → Float → Float) → List Float → List Float → Float
 total term xs ys = fold (λ sum p. add binary32 sum (term p.0 p.1)) (of_bits binary32 0) (zip xs ys)
 
