@@ -4,12 +4,11 @@
 use metrics::Metric;
 use std::io;
 
+// The bits can be taken, since no distance is a NaN.
+#[tactic(auto, using(metrics::proofs::DistanceLaws::distance_no_nan))]
 fn show(rt: &impl Print, name: &str, metric: Metric) -> io::Result<()> {
-    let a = [1.0f32, 2.0];
-    let b = [4.0f32, -2.0];
-    let distance = metric.distance(&a, &b).value;
-    let bits = f32::to_bits(distance);
-    println!(rt; "{name}{bits:08x}")
+    let distance = metric.distance(&[1.0, 2.0], &[4.0, -2.0]);
+    println!(rt; "{name}{:08x}", distance.value.to_bits())
 }
 
 fn main(rt: HostRuntime) -> io::Result<()> {

@@ -27,7 +27,7 @@ pub extern "C" fn leaves_distance(metric: u16, a: &[f32], b: &[f32]) -> f32
     if a.len() != b.len() {
         return metrics::cut::LARGEST;
     }
-    Metric::from_number(metric).distance(a, b).value
+    Metric::from(metric).distance(a, b).value
 }
 
 // The heap's three calls. As there, it is the caller who sees to the lengths.

@@ -10,12 +10,13 @@ use lib.Ieee.{Float, nan, inf, fin, binary32, neg, add, fits, is_nan, to_bits, o
 use lib.Ieee.Bits.{of_bits-fits, to_bits-lt}
 use lib.Ieee.Fits.{nan-fits, neg-fits, add-fits}
 use lib.Ieee.Scale.{finite}
+use Rattle.std.specs.List.{fold, zip}
 use Rattle.kinds.specs.Order.{order_of}
 use Rattle.kinds.proofs.Compared.{less_as_floats, equal_as_floats}
 use Rattle.metrics.specs.declared.Distance.{Distance}
 use Rattle.metrics.specs.declared.Metric.{Metric}
 use Rattle.metrics.specs.declared.Metric.TheVariants.{Unknown, Manhattan, DotProduct, Euclidean, CosineSimilarity, Angular}
-use Rattle.metrics.specs.Chain.{chain, total, squared, apart, product}
+use Rattle.metrics.specs.Chain.{total, squared, apart, product}
 use Rattle.metrics.specs.Cut.{cut, largest}
 use Rattle.metrics.specs.Distance.{number_of, metric_of, measured, distance_of}
 
@@ -37,14 +38,12 @@ cut_fits (inf false) h = of_bits-fits binary32 0x7F7F_FFFF
 cut_fits (inf true) h = neg-fits binary32 largest (of_bits-fits binary32 0x7F7F_FFFF)
 cut_fits (fin s m e) h = h
 
-chain_fits : (term : Float → Float → Float) (sum : Float) (xs ys : List Float) → T (fits binary32 sum) → T (fits binary32 (chain term sum xs ys))
-unfolding chain
-chain_fits term sum [] ys h = h
-chain_fits term sum (x ∷ xs) [] h = h
-chain_fits term sum (x ∷ xs) (y ∷ ys) h = chain_fits term (add binary32 sum (term x y)) xs ys (add-fits binary32 sum (term x y))
+sum_fits : (term : Float → Float → Float) (sum : Float) (pairs : List (Float × Float)) → T (fits binary32 sum) → T (fits binary32 (fold (λ s p. add binary32 s (term p.0 p.1)) sum pairs))
+sum_fits term sum [] h = h
+sum_fits term sum (p ∷ pairs) h = sum_fits term (add binary32 sum (term p.0 p.1)) pairs (add-fits binary32 sum (term p.0 p.1))
 
 total_fits : (term : Float → Float → Float) (xs ys : List Float) → T (fits binary32 (total term xs ys))
-total_fits term xs ys = chain_fits term (of_bits binary32 0) xs ys (of_bits-fits binary32 0)
+total_fits term xs ys = sum_fits term (of_bits binary32 0) (zip xs ys) (of_bits-fits binary32 0)
 
 measured_fits : (metric : Metric) (xs ys : List Float) → T (fits binary32 (measured metric xs ys))
 measured_fits Unknown xs ys = nan-fits binary32

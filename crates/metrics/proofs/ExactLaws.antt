@@ -1,20 +1,20 @@
--- Taking a float from +0.0 negates it, and nothing is rounded: so the greater of d and 0.0 - d is d with the sign bit cleared. Assumes nothing.
+-- Taking a float from +0.0 negates it, and nothing is rounded: so 0.0 - d for a d up to zero, and d above, is d with its sign bit cleared. Assumes nothing.
 use mathlib.Core.Path.{◌≡◌, refl, sym, ap, subst, ◌∙◌}
 use Prim.Native.Nat.{ℕ, zero, suc, ◌+◌, ◌-◌, ◌*◌, ◌%◌, ◌^◌, ◌≤◌, ◌<◌}
 use native.Mathlib.Nat.{zero-add, zero-mul, one-mul, mul-one, mul_assoc, mul_comm, mul_right_comm, mul-pos, mul-lt-mul_of_pos_right, lt_of_mul-lt-mul_right, sub-zero, pow-succ'}
 use native.Mathlib.Omega.{arith}
 use mathlib.Core.Bool.{Bool, true, false, not, ◌&&◌}
 use lib.Dec.{T, leb, ltb, eqb, leb→le, ltb→lt, eqb→eq}
-use borrow.Author.Tests.{lt-ltb}
+use borrow.Author.Tests.{lt-ltb, le-ltb, ne_eqb}
 use lib.IntN.{ℤ, pos, negsuc}
 use lib.Pow.{pow-add, pow_pos}
-use lib.Ieee.{Float, nan, inf, fin, Format, binary32, prec, emax, low, up, down, round, sum, add, sub, neg, lt, fits, of_bits}
+use lib.Ieee.{Float, nan, inf, fin, Format, binary32, prec, emax, low, up, down, round, sum, add, sub, neg, lt, eq, le, fits, of_bits}
 use lib.Ieee.Bits.{of_bits-to_bits}
 use lib.Ieee.Exact.{HasValue, round_exact}
 use lib.Ieee.Fits.{round-fits, sub-fits, up_pos, down_pos, and_l, and_r}
 use Rattle.kinds.proofs.SignLaws.{fits_sign}
 use Rattle.kinds.proofs.Magnitudes.{equal_bits, pow_le_back}
-use Rattle.metrics.specs.Chain.{cleared}
+use Rattle.metrics.specs.Chain.{cleared, apart}
 
 -- ---- a value is the only one of its format, sign and size
 
@@ -79,12 +79,14 @@ kept f t s m e h =
 
 -- ---- 0.0 - x
 
+no_zero : (m : ℕ) (e : ℤ) → 0 < suc m * up e
+no_zero m e = mul-pos {m = suc m} {n = up e} (omega arith) (up_pos e)
+
 zero_minus : (f : Format) (s : Bool) (m : ℕ) (e : ℤ) → T (fits f (fin s (suc m) e)) → sub f (fin false 0 (pos 0)) (fin s (suc m) e) ≡ fin (not s) (suc m) e
 unfolding sub add neg sum
 zero_minus f true m e h = rw (zero-mul (down e), zero-add (suc m * up e * 1), mul-one (suc m * up e), one-mul (down e)) (kept f false true m e h)
 zero_minus f false m e h =
-    let some : 0 < suc m * up e = mul-pos {m = suc m} {n = up e} (omega arith) (up_pos e) in
-    rw (zero-mul (down e), mul-one (suc m * up e), one-mul (down e), lt-ltb 0 (suc m * up e) some, sub-zero (suc m * up e)) (kept f true false m e h)
+    rw (zero-mul (down e), mul-one (suc m * up e), one-mul (down e), lt-ltb 0 (suc m * up e) (no_zero m e), sub-zero (suc m * up e)) (kept f true false m e h)
 
 no_power : (n : ℕ) → 2 ^ suc n ≡ 1 → ⊥
 no_power n h = omega (arith, pow-succ' 2 n, pow_pos n)
@@ -95,60 +97,50 @@ zero_exponent s (pos zero) h = refl
 zero_exponent s (pos (suc a)) h = absurd (no_power a (sym (mul-one (2 ^ suc a)) ∙ eqb→eq (2 ^ suc a * 1) 1 h))
 zero_exponent s (negsuc a) h = absurd (no_power a (sym (one-mul (2 ^ suc a)) ∙ eqb→eq (1 * 2 ^ suc a) 1 h))
 
--- ---- the greater of x and 0.0 - x
+-- ---- x with its sign bit cleared: 0.0 - x up to zero, and x above
 
 abbrev minus : Float → Float
 minus x = sub binary32 (of_bits binary32 0) x
-
-no : {P : Type 0} → false ≡ true → P
-no e = absurd (subst (λ (b : Bool). T (not b)) e tt)
 
 zero_from_zero : (s : Bool) → minus (fin s 0 (pos 0)) ≡ fin false 0 (pos 0)
 unfolding sub add neg sum of_bits round
 zero_from_zero true = refl
 zero_from_zero false = refl
 
--- a zero is not less than a zero
-zero_zero : (s : Bool) → lt (minus (fin s 0 (pos 0))) (fin s 0 (pos 0)) ≡ false
-unfolding lt
-zero_zero true = ap (λ (y : Float). lt y (fin true 0 (pos 0))) (zero_from_zero true)
-zero_zero false = ap (λ (y : Float). lt y (fin false 0 (pos 0))) (zero_from_zero false)
+above_zero : (m : ℕ) (e : ℤ) → le (fin false (suc m) e) (of_bits binary32 0) ≡ false
+unfolding le lt eq of_bits
+above_zero m e =
+    let some = no_zero m e in
+    rw (zero-mul (down e), mul-one (suc m * up e), le-ltb (suc m * up e) 0 (omega arith), ne_eqb (suc m * up e) 0 (λ n. omega arith)) refl
 
-minus_less : (m : ℕ) (e : ℤ) → T (fits binary32 (fin false (suc m) e)) → lt (minus (fin false (suc m) e)) (fin false (suc m) e) ≡ true
-unfolding lt of_bits
-minus_less m e h =
-    let a = suc m * up e * down e in
-    let some : 0 < a = mul-pos (mul-pos {m = suc m} {n = up e} (omega arith) (up_pos e)) (down_pos e) in
-    ap (λ (y : Float). lt y (fin false (suc m) e)) (zero_minus binary32 false m e h) ∙ lt-ltb 0 (a + a) (omega arith)
+below_zero : (m : ℕ) (e : ℤ) → le (fin true m e) (of_bits binary32 0) ≡ true
+unfolding le lt eq of_bits
+below_zero zero e = rw (zero-mul (up e), zero-mul (down e)) refl
+below_zero (suc m) e =
+    let some = no_zero m e in
+    rw (zero-mul (down e), mul-one (suc m * up e), lt-ltb 0 (suc m * up e + 0) (omega arith)) refl
 
-minus_not_less : (m : ℕ) (e : ℤ) → T (fits binary32 (fin true (suc m) e)) → lt (minus (fin true (suc m) e)) (fin true (suc m) e) ≡ false
-unfolding lt of_bits
-minus_not_less m e h = ap (λ (y : Float). lt y (fin true (suc m) e)) (zero_minus binary32 true m e h)
-
-pub plus_cleared : (x : Float) → T (fits binary32 x) → lt (minus x) x ≡ true → x ≡ cleared x
-unfolding sub add neg lt cleared of_bits
-plus_cleared nan h t = no t
-plus_cleared (inf true) h t = no t
-plus_cleared (inf false) h t = refl
-plus_cleared (fin s zero e) h t =
-    let z : lt (minus (fin s 0 e)) (fin s 0 e) ≡ false = subst (λ (d : ℤ). lt (minus (fin s 0 d)) (fin s 0 d) ≡ false) (sym (zero_exponent s e h)) (zero_zero s) in
-    no (sym z ∙ t)
-plus_cleared (fin true (suc m) e) h t = no (sym (minus_not_less m e h) ∙ t)
-plus_cleared (fin false (suc m) e) h t = refl
-
-pub minus_cleared : (x : Float) → T (fits binary32 x) → lt (minus x) x ≡ false → minus x ≡ cleared x
-unfolding sub add neg lt cleared of_bits
+pub minus_cleared : (x : Float) → T (fits binary32 x) → le x (of_bits binary32 0) ≡ true → minus x ≡ cleared x
+unfolding sub add neg lt eq le cleared of_bits
 minus_cleared nan h t = refl
 minus_cleared (inf true) h t = refl
-minus_cleared (inf false) h t = no (sym t)
+minus_cleared (inf false) h t = cc
 minus_cleared (fin s zero e) h t = subst (λ (d : ℤ). minus (fin s 0 d) ≡ fin false 0 d) (sym (zero_exponent s e h)) (zero_from_zero s)
 minus_cleared (fin true (suc m) e) h t = zero_minus binary32 true m e h
-minus_cleared (fin false (suc m) e) h t = no (sym t ∙ minus_less m e h)
+minus_cleared (fin false (suc m) e) h t = cc (above_zero m e)
 
--- ---- what `gap` hands back
+pub plus_cleared : (x : Float) → le x (of_bits binary32 0) ≡ false → x ≡ cleared x
+unfolding le lt eq cleared of_bits
+plus_cleared nan t = refl
+plus_cleared (inf true) t = cc
+plus_cleared (inf false) t = refl
+plus_cleared (fin true m e) t = cc (below_zero m e)
+plus_cleared (fin false m e) t = refl
 
-pub gap_plus : (x y : Float) → lt (minus (sub binary32 x y)) (sub binary32 x y) ≡ true → sub binary32 x y ≡ cleared (sub binary32 x y)
-gap_plus x y h = plus_cleared (sub binary32 x y) (sub-fits binary32 x y) h
+-- ---- the two ways out of a term of Manhattan's sum
 
-pub gap_minus : (x y : Float) → lt (minus (sub binary32 x y)) (sub binary32 x y) ≡ false → minus (sub binary32 x y) ≡ cleared (sub binary32 x y)
-gap_minus x y h = minus_cleared (sub binary32 x y) (sub-fits binary32 x y) h
+pub apart_minus : (x y : Float) → le (sub binary32 x y) (of_bits binary32 0) ≡ true → minus (sub binary32 x y) ≡ apart x y
+apart_minus x y h = minus_cleared (sub binary32 x y) (sub-fits binary32 x y) h
+
+pub apart_plus : (x y : Float) → le (sub binary32 x y) (of_bits binary32 0) ≡ false → sub binary32 x y ≡ apart x y
+apart_plus x y h = plus_cleared (sub binary32 x y) h

@@ -1,4 +1,3 @@
-pub mod ChainLaws
 pub mod CutLaws
 pub mod ExactLaws
 pub mod DistanceLaws

@@ -5,7 +5,7 @@ use mathlib.Core.List.{[], ◌∷◌}
 use lib.Ieee.{binary32, to_bits, of_bits, add, sub, mul, neg}
 use Rattle.metrics.specs.declared.Metric.{Metric}
 use Rattle.metrics.specs.declared.Metric.TheVariants.{Manhattan, DotProduct, Euclidean}
-use Rattle.metrics.specs.Chain.{chain, cleared}
+use Rattle.metrics.specs.Chain.{cleared}
 use Rattle.metrics.specs.Cut.{cut}
 use Rattle.metrics.specs.Distance.{distance_of}
 
@@ -17,5 +17,5 @@ between metric =
 
 -- "(1,2) and (4,-2): Euclidean 25, Manhattan 7, DotProduct bits 0x80000000."
 pub starred : (between Euclidean ≡ 0x41C8_0000) × (between Manhattan ≡ 0x40E0_0000) × (between DotProduct ≡ 0x8000_0000)
-unfolding distance_of chain cleared cut to_bits of_bits add sub mul neg
+unfolding distance_of cleared cut to_bits of_bits add sub mul neg
 starred = (refl, refl, refl)

@@ -1,17 +1,12 @@
 -- 01: "Coordinates are taken in index order, the sum starts at +0.0, each operation rounds once."
-use Rattle.std.specs.Prelude.{List, [], ◌∷◌, Float, false}
+use Rattle.std.specs.Prelude.{List, Float, false, fold}
+use Rattle.std.specs.List.{zip}
 use Rattle.std.specs.Float.{nan, inf, fin, binary32}
 use Rattle.std.specs.Float.Ieee.{add, sub, mul, of_bits}
 
--- from a sum so far: one term for each pair of coordinates, added in index order
-unfoldable pub chain : (Float → Float → Float) → Float → List Float → List Float → Float
-chain term sum [] ys = sum
-chain term sum (x ∷ xs) [] = sum
-chain term sum (x ∷ xs) (y ∷ ys) = chain term (add binary32 sum (term x y)) xs ys
-
--- the whole sum: the pattern of all zero bits is +0.0
+-- A term for each pair of coordinates is added to the sum so far. The pattern of all zero bits is +0.0.
 abbrev pub total : (Float → Float → Float) → List Float → List Float → Float
-total term xs ys = chain term (of_bits binary32 0) xs ys
+total term xs ys = fold (λ sum p. add binary32 sum (term p.0 p.1)) (of_bits binary32 0) (zip xs ys)
 
 -- "Euclidean: sum of squared differences (squared, by our choice)."
 abbrev pub squared : Float → Float → Float

@@ -1,6 +1,7 @@
 // Distances between vectors: hora's metrics.rs, for f32 and the three metrics that are kept.
 #![tactic(auto)]
 
+mod chain;
 pub mod cut;
 pub mod dot;
 pub mod euclidean;
@@ -9,9 +10,15 @@ pub mod manhattan;
 ghost use Rattle.std.specs.Prelude.{◌≡◌, length};
 ghost use Rattle.metrics.specs.Distance.{number_of, metric_of, measured, distance_of};
 
+use cut::to_finite;
+use dot::dot_product;
+use euclidean::euclidean_distance;
+use manhattan::manhattan_distance;
+
 // In hora's order, which is that of their numbers. CosineSimilarity and Angular have a number and no distance here.
-#[derive(Clone, Copy)]
+#[derive(Clone, Copy, Debug, Default, PartialEq, Eq, Hash)]
 pub enum Metric {
+    #[default]
     Unknown,
     Manhattan,
     DotProduct,
@@ -21,29 +28,24 @@ pub enum Metric {
 }
 
 // A distance is always finite.
-#[derive(Clone, Copy)]
+#[derive(Clone, Copy, Debug, PartialEq, PartialOrd)]
 pub struct Distance {
     pub value: f32,
 }
 
-impl Metric {
-    pub fn number(self) -> u16
-        ensures { result ≡ number_of self }
-    {
-        match self {
-            Metric::Unknown => 0,
-            Metric::Manhattan => 1,
-            Metric::DotProduct => 2,
-            Metric::Euclidean => 3,
-            Metric::CosineSimilarity => 4,
-            Metric::Angular => 5,
-        }
-    }
+impl From<Metric> for u16 {
+    ghost from_gives = { λ metric n. n ≡ number_of metric };
 
-    // A number that stands for no metric is Unknown's.
-    pub fn from_number(n: u16) -> Metric
-        ensures { result ≡ metric_of n }
-    {
+    fn from(metric: Metric) -> u16 {
+        metric as u16
+    }
+}
+
+// A number that stands for no metric is Unknown's.
+impl From<u16> for Metric {
+    ghost from_gives = { λ n metric. metric ≡ metric_of n };
+
+    fn from(n: u16) -> Metric {
         match n {
             1 => Metric::Manhattan,
             2 => Metric::DotProduct,
@@ -53,29 +55,31 @@ impl Metric {
             _ => Metric::Unknown,
         }
     }
+}
 
+impl Metric {
     // Before the cut. A metric that has no kernel here has no distance: NaN.
+    #[tactic(auto, using(crate::proofs::CutLaws::nan_is))]
     fn measured(self, a: &[f32], b: &[f32]) -> f32
         requires { length a.now ≡ length b.now }
         ensures { result ≡ measured self a.now b.now }
     {
         match self {
-            Metric::Unknown => 0.0 / 0.0,
-            Metric::Manhattan => manhattan::manhattan_distance(a, b),
-            Metric::DotProduct => dot::dot_product(a, b),
-            Metric::Euclidean => euclidean::euclidean_distance(a, b),
-            Metric::CosineSimilarity => 0.0 / 0.0,
-            Metric::Angular => 0.0 / 0.0,
+            Metric::Manhattan => manhattan_distance(a, b),
+            Metric::DotProduct => dot_product(a, b),
+            Metric::Euclidean => euclidean_distance(a, b),
+            Metric::Unknown | Metric::CosineSimilarity | Metric::Angular => f32::NAN,
         }
     }
 
     // Total, and always finite.
+    #[tactic(auto, unfolding(crate::specs::Distance::distance_of))]
     pub fn distance(self, a: &[f32], b: &[f32]) -> Distance
         requires { length a.now ≡ length b.now }
         ensures { result ≡ record { value = distance_of self a.now b.now } }
     {
         Distance {
-            value: cut::to_finite(self.measured(a, b)),
+            value: to_finite(self.measured(a, b)),
         }
     }
 }
