@@ -11,11 +11,11 @@ ghost use Rattle.kinds.specs.Order.{order_of};
 pub struct Order(pub i32);
 
 // A vector's place in the tables.
-#[derive(Clone, Copy)]
+#[derive(Clone, Copy, Debug, PartialEq, Eq)]
 pub struct Id(pub u16);
 
 // A layer of the graph: 0 is the one that holds every id.
-#[derive(Clone, Copy)]
+#[derive(Clone, Copy, Debug, PartialEq, Eq)]
 pub struct Level(pub u8);
 
 impl Order {
