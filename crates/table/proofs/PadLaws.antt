@@ -10,7 +10,8 @@ use lib.ListN.{length, get_or, set, take, drop, length-take, length-drop}
 use lib.Seq.{take-suc, take-suc-set, take-set-lt, take_all, drop-drop, set-append_left}
 use Rattle.params.specs.declared.HNSWParams.{HNSWParams}
 use Rattle.table.specs.Layout.{slots, list_start, HasList, padded, replaced}
-use Rattle.table.specs.Rules.{every, is_nothing}
+use Rattle.std.specs.List.{list_all}
+use Rattle.table.specs.Rules.{is_nothing}
 
 pub past_end : (xs : List ℕ) (j : ℕ) → length xs ≤ j → get_or xs j 0 ≡ 0
 past_end [] j h = refl
@@ -49,13 +50,13 @@ padded_ids n [] h = refl
 padded_ids zero (x ∷ ids) h = absurd (not-suc-le-zero h)
 padded_ids (suc n) (x ∷ ids) h = ap (λ (r : List ℕ). x ∷ r) (padded_ids n ids (le_of_suc-le-suc h))
 
-nothing_padded : (n : ℕ) → every is_nothing (padded n []) ≡ true
-unfolding padded every
+nothing_padded : (n : ℕ) → list_all is_nothing (padded n []) ≡ true
+unfolding padded
 nothing_padded zero = refl
 nothing_padded (suc n) = nothing_padded n
 
-pub padded_slack : (n : ℕ) (ids : List ℕ) → every is_nothing (drop (length ids) (padded n ids)) ≡ true
-unfolding padded every
+pub padded_slack : (n : ℕ) (ids : List ℕ) → list_all is_nothing (drop (length ids) (padded n ids)) ≡ true
+unfolding padded
 padded_slack n [] = nothing_padded n
 padded_slack zero (x ∷ ids) = refl
 padded_slack (suc n) (x ∷ ids) = padded_slack n ids

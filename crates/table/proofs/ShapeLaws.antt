@@ -7,6 +7,7 @@ use native.Mathlib.Omega.{arith}
 use mathlib.Core.Bool.{Bool, true, false, not, ◌&&◌, cond}
 use mathlib.Core.List.{List}
 use lib.Dec.{T, eqb}
+use lib.ListN.{length}
 use borrow.Author.Tests.{eqb-true, eq-eqb, ne_eqb}
 use Rattle.params.specs.declared.HNSWParams.{HNSWParams}
 use Rattle.params.specs.declared.Header.{Header}
@@ -24,12 +25,15 @@ in_block p level h = elim (eq-zero-or-pos level) [
       rw (ne_eqb level 0 (λ e. omega arith)) (omega (arith, suc-mul (level - 1) w))
 ]
 
-pub has_list : (h : Header) (levels links : List ℕ) (id level : ℕ) → Shaped h levels links → id < h.params.max_item → level ≤ h.params.max_level → HasList h.params links id level
+pub lies_within : (h : Header) (links : List ℕ) (id level : ℕ) → length links ≡ h.params.max_item * block h.params → id < h.params.max_item → level ≤ h.params.max_level → HasList h.params links id level
 unfolding list_start
-has_list h levels links id level s i l =
+lies_within h links id level e i l =
     let p = h.params in
     let whole : suc id * block p ≤ p.max_item * block p = mul-le-mul_right {m = suc id} {n = p.max_item} (block p) i in
-    record { within = omega (arith, suc-mul id (block p), in_block p level l, s.links_length) }
+    record { within = omega (arith, suc-mul id (block p), in_block p level l, e) }
+
+pub has_list : (h : Header) (levels links : List ℕ) (id level : ℕ) → Shaped h levels links → id < h.params.max_item → level ≤ h.params.max_level → HasList h.params links id level
+has_list h levels links id level s i l = lies_within h links id level s.links_length i l
 
 -- the lengths, as equations
 pub record Lengths (h : Header) (vectors levels marks links : ℕ) : Type 0 where

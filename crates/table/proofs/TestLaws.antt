@@ -12,7 +12,8 @@ use lib.Ieee.{Float}
 use lib.ListN.{length, get_or}
 use Rattle.params.specs.declared.Header.{Header}
 use Rattle.table.specs.Layout.{slots, count_at, list_at, slack_at}
-use Rattle.table.specs.Rules.{r1, r2, r3, r4, r5, r6, r7, r8, r9, every, is_nothing, is_other, may_list, distinct}
+use Rattle.std.specs.List.{list_all}
+use Rattle.table.specs.Rules.{r1, r2, r3, r4, r5, r6, r7, r8, r9, is_nothing, may_list, contains, distinct}
 use Rattle.table.specs.Passing.{R1, R2, R3, R4, R5, R6, R7, R8, R9}
 
 no : {P : Type 0} → false ≡ true → P
@@ -45,6 +46,10 @@ left a b p = rw p
 right : (a b : Bool) → b ≡ true → a || b ≡ true
 right true b p = refl
 right false b p = p
+
+neither : (a b : Bool) → a || b ≡ false → b ≡ false
+neither true b h = no (sym h)
+neither false b h = h
 
 -- ---- the rules at one place
 
@@ -156,32 +161,39 @@ r6_is h levels links id level =
           (λ p. right (b && c) d (eq-eqb n 0 (r.unbuilt (ltb-false id h.built p))))),
     )
 
--- ---- every entry, and no entry twice
+-- ---- list_all entry, and no entry twice
 
-pub every_at : (test : ℕ → Bool) (xs : List ℕ) → every test xs ≡ true → (i : ℕ) → i < length xs → test (get_or xs i 0) ≡ true
-unfolding every
+pub every_at : (test : ℕ → Bool) (xs : List ℕ) → list_all test xs ≡ true → (i : ℕ) → i < length xs → test (get_or xs i 0) ≡ true
 every_at test [] h i l = absurd (omega arith)
-every_at test (x ∷ xs) h zero l = one (test x) (every test xs) h
-every_at test (x ∷ xs) h (suc i) l = every_at test xs (two (test x) (every test xs) h) i (omega arith)
+every_at test (x ∷ xs) h zero l = one (test x) (list_all test xs) h
+every_at test (x ∷ xs) h (suc i) l = every_at test xs (two (test x) (list_all test xs) h) i (omega arith)
 
-pub at_every : (test : ℕ → Bool) (xs : List ℕ) → ((i : ℕ) → i < length xs → test (get_or xs i 0) ≡ true) → every test xs ≡ true
-unfolding every
+pub at_every : (test : ℕ → Bool) (xs : List ℕ) → ((i : ℕ) → i < length xs → test (get_or xs i 0) ≡ true) → list_all test xs ≡ true
 at_every test [] h = refl
-at_every test (x ∷ xs) h = both (test x) (every test xs) (h 0 (omega arith)) (at_every test xs (λ i l. h (suc i) (omega arith)))
+at_every test (x ∷ xs) h = both (test x) (list_all test xs) (h 0 (omega arith)) (at_every test xs (λ i l. h (suc i) (omega arith)))
+
+none_at : (x : ℕ) (xs : List ℕ) → contains x xs ≡ false → (i : ℕ) → i < length xs → get_or xs i 0 ≡ x → ⊥
+none_at x [] h i l e = absurd (omega arith)
+none_at x (y ∷ xs) h zero l e = no (sym (rw (eq-eqb y x e) at h))
+none_at x (y ∷ xs) h (suc i) l e = none_at x xs (neither (eqb y x) (contains x xs) h) i (omega arith) e
+
+at_none : (x : ℕ) (xs : List ℕ) → ((i : ℕ) → i < length xs → get_or xs i 0 ≡ x → ⊥) → contains x xs ≡ false
+at_none x [] h = refl
+at_none x (y ∷ xs) h = rw (ne_eqb y x (h 0 (omega arith))) (at_none x xs (λ i l. h (suc i) (omega arith)))
 
 pub distinct_at : (xs : List ℕ) → distinct xs ≡ true → (i j : ℕ) → i < j → j < length xs → get_or xs i 0 ≡ get_or xs j 0 → ⊥
 unfolding distinct
 distinct_at [] h i j k l e = absurd (omega arith)
 distinct_at (x ∷ xs) h i zero k l e = absurd (omega arith)
-distinct_at (x ∷ xs) h zero (suc j) k l e = eqb-false (get_or xs j 0) x (not-true _ (every_at (is_other x) xs (one (every (is_other x) xs) (distinct xs) h) j (omega arith))) (sym e)
-distinct_at (x ∷ xs) h (suc i) (suc j) k l e = distinct_at xs (two (every (is_other x) xs) (distinct xs) h) i j (omega arith) (omega arith) e
+distinct_at (x ∷ xs) h zero (suc j) k l e = none_at x xs (not-true (contains x xs) (one (not (contains x xs)) (distinct xs) h)) j (omega arith) (sym e)
+distinct_at (x ∷ xs) h (suc i) (suc j) k l e = distinct_at xs (two (not (contains x xs)) (distinct xs) h) i j (omega arith) (omega arith) e
 
 pub at_distinct : (xs : List ℕ) → ((i j : ℕ) → i < j → j < length xs → get_or xs i 0 ≡ get_or xs j 0 → ⊥) → distinct xs ≡ true
 unfolding distinct
 at_distinct [] h = refl
 at_distinct (x ∷ xs) h =
-    both (every (is_other x) xs) (distinct xs)
-    (at_every (is_other x) xs (λ j l. ap not (ne_eqb (get_or xs j 0) x (λ e. h 0 (suc j) (omega arith) (omega arith) (sym e)))))
+    both (not (contains x xs)) (distinct xs)
+    (ap not (at_none x xs (λ j l e. h 0 (suc j) (omega arith) (omega arith) (sym e))))
     (at_distinct xs (λ i j k l e. h (suc i) (suc j) (omega arith) (omega arith) e))
 
 pub r7_is : (h : Header) (links : List ℕ) (id level : ℕ) → (r7 h links id level ≡ true) ↔ R7 h links id level

@@ -1,9 +1,7 @@
 // The rules R1 to R9, each as a test at one place, and the first place at which one fails.
 ghost use Rattle.std.specs.Prelude.{◌≡◌, ℕ, ◌+◌, ◌*◌, ◌<◌, ◌≤◌, length};
 ghost use Rattle.std.specs.Float.Ieee.Scale.{finite};
-ghost use Rattle.table.specs.First.{first};
-ghost use Rattle.table.specs.Layout.{HasList};
-ghost use Rattle.table.specs.Rules.{r1, r2, r3, r4, r5, r6, r7, r8, r9, is_zero, every, is_nothing, may_list, distinct};
+ghost use Rattle.table.specs.Rules.{r1, r2, r3, r4, r5, is_zero};
 
 use kinds::{Id, Level};
 use params::Header;
