@@ -48,19 +48,9 @@ pub fn test_r2_to_r5(
         return Err(Broken::R2);
     }
     let n = header.params.max_item as usize;
-    each(
-        n,
-        |i| rules::r3_holds(header, levels, Id(i as u16)),
-        |i| Broken::R3(Id(i as u16)),
-    )?;
-    each(
-        n,
-        |i| rules::r4_holds(header, marks, Id(i as u16)),
-        |i| Broken::R4(Id(i as u16)),
-    )?;
-    each(
-        vectors.len(),
-        |j| rules::r5_holds(header, vectors, j),
-        |j| Broken::R5(Id((j / header.dimension as usize) as u16)),
-    )
+    let id = |i: usize| Id(i as u16);
+    each(n, |i| rules::r3_holds(header, levels, id(i)), |i| Broken::R3(id(i)))?;
+    each(n, |i| rules::r4_holds(header, marks, id(i)), |i| Broken::R4(id(i)))?;
+    let owner = |j: usize| id(j / header.dimension as usize);
+    each(vectors.len(), |j| rules::r5_holds(header, vectors, j), |j| Broken::R5(owner(j)))
 }
