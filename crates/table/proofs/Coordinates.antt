@@ -1,16 +1,15 @@
 -- The two tests of a coordinate. Assumes nothing.
 use mathlib.Core.Path.{◌≡◌, refl, sym, ap, ◌∙◌}
 use mathlib.Core.Logic.{inl, inr}
-use Prim.Native.Nat.{ℕ, zero, suc, ◌+◌, ◌-◌, ◌*◌, ◌/◌, ◌%◌, ◌^◌, ◌<◌, compare}
+use Prim.Native.Nat.{ℕ, ◌*◌, ◌<◌}
 use native.Mathlib.Nat.{eq-zero-or-pos, mul-pos, zero-mul, mul-one}
 use native.Mathlib.Omega.{arith}
-use mathlib.Core.Bool.{Bool, true, false, not, ◌&&◌, cond, beq}
-use lib.Dec.{T, ltb, eqb}
+use mathlib.Core.Bool.{true, false}
+use lib.Dec.{T, eqb}
 use borrow.Author.Tests.{eq-eqb, ne_eqb}
 use denote.Floats.{passes}
 use lib.IntN.{ℤ}
-use lib.Ieee.{Float, nan, inf, fin, Format, binary32, prec, emax, low, up, down, size, nearest, odd, units, round, sum, add, sub, neg, eq, ne, is_nan, fits, to_bits}
-use lib.Ieee.Compare.{differs_from_itself}
+use lib.Ieee.{Float, nan, inf, fin, binary32, up, is_nan, fits, to_bits}
 use lib.Ieee.Fits.{up_pos}
 use lib.Ieee.Scale.{finite}
 use Rattle.std.specs.Float.{float_is_finite}

@@ -18,9 +18,10 @@ pub fn slots_len(params: HNSWParams, level: Level) -> usize
     ensures { result ≡ slots params level.0 }
 {
     if level.0 == 0 {
-        return params.n_neighbor0 as usize;
+        params.n_neighbor0 as usize
+    } else {
+        params.n_neighbor as usize
     }
-    params.n_neighbor as usize
 }
 
 // Where a list's count stands; its slots stand behind it.
@@ -33,7 +34,7 @@ pub fn list_start(params: HNSWParams, id: Id, level: Level) -> usize
         return first;
     }
     let above = level.0 as usize - 1;
-    first + (1 + params.n_neighbor0 as usize + above * (1 + params.n_neighbor as usize))
+    first + 1 + params.n_neighbor0 as usize + above * (1 + params.n_neighbor as usize)
 }
 
 // The four tables have the lengths that the header says.
@@ -48,14 +49,8 @@ pub fn lengths_hold(
     ensures { result ≡ lengths_hold header vectors levels marks links }
 {
     let capacity = header.params.max_item as usize;
-    if vectors != capacity * header.dimension as usize {
-        return false;
-    }
-    if levels != capacity {
-        return false;
-    }
-    if marks != capacity {
-        return false;
-    }
-    links == capacity * block_len(header.params)
+    vectors == capacity * header.dimension as usize
+        && levels == capacity
+        && marks == capacity
+        && links == capacity * block_len(header.params)
 }

@@ -49,8 +49,20 @@ pub fn test_r2_to_r5(
     }
     let n = header.params.max_item as usize;
     let id = |i: usize| Id(i as u16);
-    each(n, |i| rules::r3_holds(header, levels, id(i)), |i| Broken::R3(id(i)))?;
-    each(n, |i| rules::r4_holds(header, marks, id(i)), |i| Broken::R4(id(i)))?;
+    each(
+        n,
+        |i| rules::r3_holds(header, levels, id(i)),
+        |i| Broken::R3(id(i)),
+    )?;
+    each(
+        n,
+        |i| rules::r4_holds(header, marks, id(i)),
+        |i| Broken::R4(id(i)),
+    )?;
     let owner = |j: usize| id(j / header.dimension as usize);
-    each(vectors.len(), |j| rules::r5_holds(header, vectors, j), |j| Broken::R5(owner(j)))
+    each(
+        vectors.len(),
+        |j| rules::r5_holds(header, vectors, j),
+        |j| Broken::R5(owner(j)),
+    )
 }
