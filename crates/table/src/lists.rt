@@ -1,6 +1,6 @@
 // A list of the link table, and the rules R6 to R9, each as a test of one list.
 ghost use Rattle.std.specs.Prelude.{◌≡◌, ℕ, ◌<◌, ◌≤◌, length};
-ghost use Rattle.table.specs.Layout.{HasList, count_at, list_at, slack_at};
+ghost use Rattle.table.specs.Layout.{HasList, count_at, slots_at, list_at, slack_at};
 ghost use Rattle.table.specs.Rules.{r6, r7, r8, r9, is_nothing, may_list, distinct};
 
 use crate::layout;
@@ -27,27 +27,30 @@ impl<'a> List<'a> {
         self.links[start] as usize
     }
 
+    #[tactic(auto, unfolding(crate::specs::Layout::slots_at))]
+    fn slots(self) -> &'a [u16]
+        ensures { result.now ≡ slots_at self.entry.header.params self.entry.links.now self.entry.id.0 self.entry.level.0 }
+    {
+        let from = layout::list_start(self.header.params, self.id, self.level) + 1;
+        &self.links[from..from + layout::slots_len(self.header.params, self.level)]
+    }
+
     // The ids that it holds: at most as many as it has slots.
-    #[tactic(auto, unfolding(crate::specs::Layout::list_at, crate::specs::Layout::slots_at))]
+    #[tactic(auto, unfolding(crate::specs::Layout::list_at))]
     pub fn ids(self) -> &'a [u16]
         ensures { result.now ≡ list_at self.entry.header.params self.entry.links.now self.entry.id.0 self.entry.level.0 }
     {
-        let from = layout::list_start(self.header.params, self.id, self.level) + 1;
-        let len = self
-            .count()
-            .min(layout::slots_len(self.header.params, self.level));
-        &self.links[from..from + len]
+        let slots = self.slots();
+        &slots[..self.count().min(slots.len())]
     }
 
     // Its slots past its count.
-    #[tactic(auto, unfolding(crate::specs::Layout::slack_at, crate::specs::Layout::slots_at))]
+    #[tactic(auto, unfolding(crate::specs::Layout::slack_at))]
     pub fn slack(self) -> &'a [u16]
         ensures { result.now ≡ slack_at self.entry.header.params self.entry.links.now self.entry.id.0 self.entry.level.0 }
     {
-        let from = layout::list_start(self.header.params, self.id, self.level) + 1;
-        let slots = layout::slots_len(self.header.params, self.level);
-        let past = from + self.count().min(slots);
-        &self.links[past..from + slots]
+        let slots = self.slots();
+        &slots[self.count().min(slots.len())..]
     }
 
     #[tactic(auto, unfolding(crate::specs::Rules::r6))]
