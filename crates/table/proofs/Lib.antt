@@ -1,5 +1,3 @@
-pub mod Products
-pub mod Parts
 pub mod Coordinates
 pub mod FirstLaws
 pub mod ShapeLaws
