@@ -13,7 +13,7 @@ use mathlib.Core.List.{List}
 use lib.ListN.{get_or, take, drop}
 use lib.Seq.{take-take, drop-drop, get_or-take, get_or-drop}
 use Rattle.table.proofs.ShapeLaws.{in_block}
-use Rattle.table.proofs.Parts.{drop-take}
+use Rattle.std.proofs.lemmas.List.{drop-take}
 
 -- where a list ends
 abbrev pub list_end : HNSWParams → ℕ → ℕ → ℕ
@@ -67,9 +67,7 @@ same_below : (xs ys : List ℕ) (s j k : ℕ) → take s xs ≡ take s ys → j 
 same_below xs ys s j k t h = seen xs ∙ ap (λ (zs : List ℕ). drop j (take (j + k) zs)) t ∙ sym (seen ys)
   where
     seen : (zs : List ℕ) → take k (drop j zs) ≡ drop j (take (j + k) (take s zs))
-    seen zs =
-        let e : j + k - j ≡ k = omega arith in
-        rw (take-take (j + k) s zs h, drop-take j (j + k) zs, e)
+    seen zs = rw (take-take (j + k) s zs h, drop-take j k zs)
 
 same_above : (xs ys : List ℕ) (e j : ℕ) → drop e xs ≡ drop e ys → e ≤ j → drop j xs ≡ drop j ys
 same_above xs ys e j t h =

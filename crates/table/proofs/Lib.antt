@@ -1,7 +1,4 @@
-pub mod Products
-pub mod Parts
 pub mod Coordinates
-pub mod EveryLaws
 pub mod FirstLaws
 pub mod ShapeLaws
 pub mod PadLaws

@@ -8,7 +8,8 @@ use lib.ListN.{length, get_or, take, drop, length-take, length-append}
 use lib.Seq.{get_or-append_seam, take-append_seam, drop-append_seam, drop-append-add}
 use Rattle.params.specs.declared.HNSWParams.{HNSWParams}
 use Rattle.table.specs.Layout.{slots, list_start, HasList, count_at, slots_at, list_at, slack_at, padded, replaced}
-use Rattle.table.specs.Rules.{every, is_nothing}
+use Rattle.std.specs.List.{list_all}
+use Rattle.table.specs.Rules.{is_nothing}
 use Rattle.table.proofs.ApartLaws.{list_end}
 use Rattle.table.proofs.PadLaws.{length-padded, padded_ids, padded_slack}
 
@@ -58,7 +59,7 @@ module _ (p : HNSWParams) (links : List ℕ) (id level : ℕ) (ids : List ℕ) (
   replaced_list l = rw (replaced_count, replaced-slots) (padded_ids (slots p level) ids l)
 
   -- what R7 asks of a list
-  pub replaced_slack : every is_nothing (slack_at p new id level) ≡ true
+  pub replaced_slack : list_all is_nothing (slack_at p new id level) ≡ true
   unfolding slack_at
   replaced_slack = rw (replaced_count, replaced-slots) (padded_slack (slots p level) ids)
 

@@ -1,13 +1,15 @@
 -- Every list of an id within the capacity lies within the link table. Assumes nothing.
-use mathlib.Core.Path.{◌≡◌, refl, subst}
+use mathlib.Core.Path.{◌≡◌}
 use mathlib.Core.Logic.{inl, inr}
 use Prim.Native.Nat.{ℕ, suc, ◌+◌, ◌-◌, ◌*◌, ◌≤◌, ◌<◌}
 use native.Mathlib.Nat.{eq-zero-or-pos, mul-le-mul_right, suc-mul}
 use native.Mathlib.Omega.{arith}
-use mathlib.Core.Bool.{Bool, true, false, not, ◌&&◌, cond}
+use mathlib.Core.Bool.{true, ◌&&◌, cond}
 use mathlib.Core.List.{List}
-use lib.Dec.{T, eqb}
+use lib.Dec.{eqb}
+use lib.ListN.{length}
 use borrow.Author.Tests.{eqb-true, eq-eqb, ne_eqb}
+use Rattle.std.proofs.lemmas.Bool.{and_parts}
 use Rattle.params.specs.declared.HNSWParams.{HNSWParams}
 use Rattle.params.specs.declared.Header.{Header}
 use Rattle.params.proofs.BoundLaws.{Within, bounds_hold}
@@ -24,12 +26,15 @@ in_block p level h = elim (eq-zero-or-pos level) [
       rw (ne_eqb level 0 (λ e. omega arith)) (omega (arith, suc-mul (level - 1) w))
 ]
 
-pub has_list : (h : Header) (levels links : List ℕ) (id level : ℕ) → Shaped h levels links → id < h.params.max_item → level ≤ h.params.max_level → HasList h.params links id level
+pub lies_within : (h : Header) (links : List ℕ) (id level : ℕ) → length links ≡ h.params.max_item * block h.params → id < h.params.max_item → level ≤ h.params.max_level → HasList h.params links id level
 unfolding list_start
-has_list h levels links id level s i l =
+lies_within h links id level e i l =
     let p = h.params in
     let whole : suc id * block p ≤ p.max_item * block p = mul-le-mul_right {m = suc id} {n = p.max_item} (block p) i in
-    record { within = omega (arith, suc-mul id (block p), in_block p level l, s.links_length) }
+    record { within = omega (arith, suc-mul id (block p), in_block p level l, e) }
+
+pub has_list : (h : Header) (levels links : List ℕ) (id level : ℕ) → Shaped h levels links → id < h.params.max_item → level ≤ h.params.max_level → HasList h.params links id level
+has_list h levels links id level s i l = lies_within h links id level s.links_length i l
 
 -- the lengths, as equations
 pub record Lengths (h : Header) (vectors levels marks links : ℕ) : Type 0 where
@@ -37,14 +42,6 @@ pub record Lengths (h : Header) (vectors levels marks links : ℕ) : Type 0 wher
   pub levels_are : levels ≡ h.params.max_item
   pub marks_are : marks ≡ h.params.max_item
   pub links_are : links ≡ h.params.max_item * block h.params
-
-one : (a b : Bool) → a && b ≡ true → a ≡ true
-one true b h = refl
-one false b h = absurd (subst (λ (t : Bool). T (not t)) h tt)
-
-two : (a b : Bool) → a && b ≡ true → b ≡ true
-two true b h = h
-two false b h = absurd (subst (λ (t : Bool). T (not t)) h tt)
 
 pub lengths_are : (h : Header) (vectors levels marks links : ℕ) → lengths_hold h vectors levels marks links ≡ true → Lengths h vectors levels marks links
 unfolding lengths_hold
@@ -54,13 +51,14 @@ lengths_are h vectors levels marks links e =
     let b = eqb levels n in
     let c = eqb marks n in
     let d = eqb links (n * block h.params) in
-    let t3 : a && b && c ≡ true = one (a && b && c) d e in
-    let t2 : a && b ≡ true = one (a && b) c t3 in
+    let abc = and_parts (a && b && c) d e in
+    let ab = and_parts (a && b) c abc.0 in
+    let both = and_parts a b ab.0 in
     record {
-      vectors_are = eqb-true vectors (n * h.dimension) (one a b t2);
-      levels_are = eqb-true levels n (two a b t2);
-      marks_are = eqb-true marks n (two (a && b) c t3);
-      links_are = eqb-true links (n * block h.params) (two (a && b && c) d e);
+      vectors_are = eqb-true vectors (n * h.dimension) both.0;
+      levels_are = eqb-true levels n both.1;
+      marks_are = eqb-true marks n ab.1;
+      links_are = eqb-true links (n * block h.params) abc.1;
     }
 
 pub shape_bounds : (h : Header) (levels links : List ℕ) → Shaped h levels links → Within h

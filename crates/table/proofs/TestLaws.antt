@@ -10,9 +10,12 @@ use lib.Dec.{T, leb, ltb, eqb}
 use borrow.Author.Tests.{ltb-true, ltb-false, leb-true, leb-false, eqb-true, eqb-false, lt-ltb, le-leb, eq-eqb, ne_eqb, not-true}
 use lib.Ieee.{Float}
 use lib.ListN.{length, get_or}
+use Rattle.std.proofs.lemmas.Bool.{and_parts}
+use Rattle.std.proofs.lemmas.List.Sums.{AllPass-from_list_all}
 use Rattle.params.specs.declared.Header.{Header}
 use Rattle.table.specs.Layout.{slots, count_at, list_at, slack_at}
-use Rattle.table.specs.Rules.{r1, r2, r3, r4, r5, r6, r7, r8, r9, every, is_nothing, is_other, may_list, distinct}
+use Rattle.std.specs.List.{list_all}
+use Rattle.table.specs.Rules.{r1, r2, r3, r4, r5, r6, r7, r8, r9, is_nothing, may_list, contains, distinct}
 use Rattle.table.specs.Passing.{R1, R2, R3, R4, R5, R6, R7, R8, R9}
 
 no : {P : Type 0} → false ≡ true → P
@@ -27,14 +30,6 @@ cases false f g = g refl
 both : (a b : Bool) → a ≡ true → b ≡ true → a && b ≡ true
 both a b p q = rw (p, q)
 
-one : (a b : Bool) → a && b ≡ true → a ≡ true
-one true b h = refl
-one false b h = no h
-
-two : (a b : Bool) → a && b ≡ true → b ≡ true
-two true b h = h
-two false b h = no h
-
 either : {P : Type 0} (a b : Bool) → a || b ≡ true → (a ≡ true → P) → (b ≡ true → P) → P
 either true b h f g = f refl
 either false b h f g = g h
@@ -46,13 +41,17 @@ right : (a b : Bool) → b ≡ true → a || b ≡ true
 right true b p = refl
 right false b p = p
 
+neither : (a b : Bool) → a || b ≡ false → b ≡ false
+neither true b h = no (sym h)
+neither false b h = h
+
 -- ---- the rules at one place
 
 pub r1_is : (h : Header) → (r1 h ≡ true) ↔ R1 h
 r1_is h =
     let a = leb h.built h.added in
     let b = leb h.added h.params.max_item in (
-      λ t. record { built = leb-true h.built h.added (one a b t); added = leb-true h.added h.params.max_item (two a b t) },
+      λ t. record { built = leb-true h.built h.added (and_parts a b t).0; added = leb-true h.added h.params.max_item (and_parts a b t).1 },
       λ r. both a b (le-leb h.built h.added r.built) (le-leb h.added h.params.max_item r.added),
     )
 
@@ -62,8 +61,8 @@ r2_is h =
     let b = eqb h.built 0 in
     let c = leb 1 h.metric in (
       λ t. record {
-        known = leb-true h.metric 3 (one a (b || c) t);
-        set = λ p. either b c (two a (b || c) t) (λ z. absurd (omega (arith, eqb-true h.built 0 z))) (λ l. leb-true 1 h.metric l);
+        known = leb-true h.metric 3 (and_parts a (b || c) t).0;
+        set = λ p. either b c (and_parts a (b || c) t).1 (λ z. absurd (omega (arith, eqb-true h.built 0 z))) (λ l. leb-true 1 h.metric l);
       },
       λ r. both a (b || c) (le-leb h.metric 3 r.known) (elim (eq-zero-or-pos h.built) [
         | inl z ↦ left b c (eq-eqb h.built 0 z)
@@ -85,8 +84,8 @@ r3_is h levels id =
       λ t.
           let u : a && (b || c) ≡ true = rw p at t in
           record {
-            most = λ k. leb-true x top (one a (b || c) u);
-            first = λ k z. either b c (two a (b || c) u) (λ n. absurd (eqb-false id 0 (not-true (eqb id 0) n) z)) (λ e. eqb-true x top e);
+            most = λ k. leb-true x top (and_parts a (b || c) u).0;
+            first = λ k z. either b c (and_parts a (b || c) u).1 (λ n. absurd (eqb-false id 0 (not-true (eqb id 0) n) z)) (λ e. eqb-true x top e);
             rest = λ k. absurd (omega arith);
           },
       λ r. rw p (both a (b || c) (le-leb x top (r.most l)) (elim (eq-zero-or-pos id) [
@@ -109,9 +108,9 @@ r4_is h marks id =
     let c = ltb id h.built in
     let d = h.params.has_deletion in (
       λ t. record {
-        mark = leb-true x 1 (one a (b || (c && d)) t);
-        built = λ e. either b (c && d) (two a (b || (c && d)) t) (λ z. absurd (omega (arith, eqb-true x 0 z))) (λ u. ltb-true id h.built (one c d u));
-        allowed = λ e. either b (c && d) (two a (b || (c && d)) t) (λ z. absurd (omega (arith, eqb-true x 0 z))) (λ u. two c d u);
+        mark = leb-true x 1 (and_parts a (b || (c && d)) t).0;
+        built = λ e. either b (c && d) (and_parts a (b || (c && d)) t).1 (λ z. absurd (omega (arith, eqb-true x 0 z))) (λ u. ltb-true id h.built (and_parts c d u).0);
+        allowed = λ e. either b (c && d) (and_parts a (b || (c && d)) t).1 (λ z. absurd (omega (arith, eqb-true x 0 z))) (λ u. (and_parts c d u).1);
       },
       λ r. both a (b || (c && d)) (le-leb x 1 r.mark) (elim (eq-zero-or-pos x) [
         | inl z ↦ left b (c && d) (eq-eqb x 0 z)
@@ -142,11 +141,11 @@ r6_is h levels links id level =
     let c = leb level x in
     let d = eqb n 0 in (
       λ t.
-          let u : (b && c) || d ≡ true = two a ((b && c) || d) t in
+          let u : (b && c) || d ≡ true = (and_parts a ((b && c) || d) t).1 in
           record {
-            fits = leb-true n s (one a ((b && c) || d) t);
-            unbuilt = λ l. either (b && c) d u (λ v. absurd (omega (arith, ltb-true id h.built (one b c v)))) (λ e. eqb-true n 0 e);
-            above = λ l. either (b && c) d u (λ v. absurd (omega (arith, leb-true level x (two b c v)))) (λ e. eqb-true n 0 e);
+            fits = leb-true n s (and_parts a ((b && c) || d) t).0;
+            unbuilt = λ l. either (b && c) d u (λ v. absurd (omega (arith, ltb-true id h.built (and_parts b c v).0))) (λ e. eqb-true n 0 e);
+            above = λ l. either (b && c) d u (λ v. absurd (omega (arith, leb-true level x (and_parts b c v).1))) (λ e. eqb-true n 0 e);
           },
       λ r. both a ((b && c) || d) (le-leb n s r.fits)
           (cases b
@@ -156,39 +155,41 @@ r6_is h levels links id level =
           (λ p. right (b && c) d (eq-eqb n 0 (r.unbuilt (ltb-false id h.built p))))),
     )
 
--- ---- every entry, and no entry twice
+-- ---- list_all entry, and no entry twice
 
-pub every_at : (test : ℕ → Bool) (xs : List ℕ) → every test xs ≡ true → (i : ℕ) → i < length xs → test (get_or xs i 0) ≡ true
-unfolding every
-every_at test [] h i l = absurd (omega arith)
-every_at test (x ∷ xs) h zero l = one (test x) (every test xs) h
-every_at test (x ∷ xs) h (suc i) l = every_at test xs (two (test x) (every test xs) h) i (omega arith)
-
-pub at_every : (test : ℕ → Bool) (xs : List ℕ) → ((i : ℕ) → i < length xs → test (get_or xs i 0) ≡ true) → every test xs ≡ true
-unfolding every
+pub at_every : (test : ℕ → Bool) (xs : List ℕ) → ((i : ℕ) → i < length xs → test (get_or xs i 0) ≡ true) → list_all test xs ≡ true
 at_every test [] h = refl
-at_every test (x ∷ xs) h = both (test x) (every test xs) (h 0 (omega arith)) (at_every test xs (λ i l. h (suc i) (omega arith)))
+at_every test (x ∷ xs) h = both (test x) (list_all test xs) (h 0 (omega arith)) (at_every test xs (λ i l. h (suc i) (omega arith)))
+
+none_at : (x : ℕ) (xs : List ℕ) → contains x xs ≡ false → (i : ℕ) → i < length xs → get_or xs i 0 ≡ x → ⊥
+none_at x [] h i l e = absurd (omega arith)
+none_at x (y ∷ xs) h zero l e = no (sym (rw (eq-eqb y x e) at h))
+none_at x (y ∷ xs) h (suc i) l e = none_at x xs (neither (eqb y x) (contains x xs) h) i (omega arith) e
+
+at_none : (x : ℕ) (xs : List ℕ) → ((i : ℕ) → i < length xs → get_or xs i 0 ≡ x → ⊥) → contains x xs ≡ false
+at_none x [] h = refl
+at_none x (y ∷ xs) h = rw (ne_eqb y x (h 0 (omega arith))) (at_none x xs (λ i l. h (suc i) (omega arith)))
 
 pub distinct_at : (xs : List ℕ) → distinct xs ≡ true → (i j : ℕ) → i < j → j < length xs → get_or xs i 0 ≡ get_or xs j 0 → ⊥
 unfolding distinct
 distinct_at [] h i j k l e = absurd (omega arith)
 distinct_at (x ∷ xs) h i zero k l e = absurd (omega arith)
-distinct_at (x ∷ xs) h zero (suc j) k l e = eqb-false (get_or xs j 0) x (not-true _ (every_at (is_other x) xs (one (every (is_other x) xs) (distinct xs) h) j (omega arith))) (sym e)
-distinct_at (x ∷ xs) h (suc i) (suc j) k l e = distinct_at xs (two (every (is_other x) xs) (distinct xs) h) i j (omega arith) (omega arith) e
+distinct_at (x ∷ xs) h zero (suc j) k l e = none_at x xs (not-true (contains x xs) (and_parts (not (contains x xs)) (distinct xs) h).0) j (omega arith) (sym e)
+distinct_at (x ∷ xs) h (suc i) (suc j) k l e = distinct_at xs (and_parts (not (contains x xs)) (distinct xs) h).1 i j (omega arith) (omega arith) e
 
 pub at_distinct : (xs : List ℕ) → ((i j : ℕ) → i < j → j < length xs → get_or xs i 0 ≡ get_or xs j 0 → ⊥) → distinct xs ≡ true
 unfolding distinct
 at_distinct [] h = refl
 at_distinct (x ∷ xs) h =
-    both (every (is_other x) xs) (distinct xs)
-    (at_every (is_other x) xs (λ j l. ap not (ne_eqb (get_or xs j 0) x (λ e. h 0 (suc j) (omega arith) (omega arith) (sym e)))))
+    both (not (contains x xs)) (distinct xs)
+    (ap not (at_none x xs (λ j l e. h 0 (suc j) (omega arith) (omega arith) (sym e))))
     (at_distinct xs (λ i j k l e. h (suc i) (suc j) (omega arith) (omega arith) e))
 
 pub r7_is : (h : Header) (links : List ℕ) (id level : ℕ) → (r7 h links id level ≡ true) ↔ R7 h links id level
 unfolding r7
 r7_is h links id level =
     let xs = slack_at h.params links id level in (
-      λ t. record { zero = λ i l. eqb-true (get_or xs i 0) 0 (every_at is_nothing xs t i l) },
+      λ t. record { zero = λ i l. eqb-true (get_or xs i 0) 0 (AllPass-from_list_all is_nothing xs t i 0 l) },
       λ r. at_every is_nothing xs (λ i l. eq-eqb (get_or xs i 0) 0 (r.zero i l)),
     )
 
@@ -201,9 +202,9 @@ r8_is h levels links id level =
     let b : ℕ → Bool = λ x. not (eqb x id) in
     let c : ℕ → Bool = λ x. leb level (get_or levels x 0) in (
       λ t. record {
-        built = λ i l. let x = get_or xs i 0 in ltb-true x h.built (one (a x) (b x) (one (a x && b x) (c x) (every_at test xs t i l)));
-        other = λ i l. let x = get_or xs i 0 in eqb-false x id (not-true (eqb x id) (two (a x) (b x) (one (a x && b x) (c x) (every_at test xs t i l))));
-        tall = λ i l. let x = get_or xs i 0 in leb-true level (get_or levels x 0) (two (a x && b x) (c x) (every_at test xs t i l));
+        built = λ i l. let x = get_or xs i 0 in ltb-true x h.built (and_parts (a x) (b x) (and_parts (a x && b x) (c x) (AllPass-from_list_all test xs t i 0 l)).0).0;
+        other = λ i l. let x = get_or xs i 0 in eqb-false x id (not-true (eqb x id) (and_parts (a x) (b x) (and_parts (a x && b x) (c x) (AllPass-from_list_all test xs t i 0 l)).0).1);
+        tall = λ i l. let x = get_or xs i 0 in leb-true level (get_or levels x 0) (and_parts (a x && b x) (c x) (AllPass-from_list_all test xs t i 0 l)).1;
       },
       λ r. at_every test xs (λ i l.
           let x = get_or xs i 0 in

@@ -1,5 +1,6 @@
 -- 01: "A table passes when, in this order:" the rules R1 to R9, each as a test at one place.
 use Rattle.std.specs.Prelude.{ℕ, ◌*◌, Bool, true, false, not, ◌&&◌, ◌||◌, cond, List, [], ◌∷◌, leb, ltb, eqb, Float, get_or}
+use Rattle.std.specs.List.{list_all, list_any}
 use Rattle.std.specs.Float.{nan, inf, fin}
 use Rattle.std.specs.Float.Ieee.Scale.{finite}
 use Rattle.params.specs.declared.Header.{Header}
@@ -40,32 +41,27 @@ r6 h levels links id level =
     leb (count_at h.params links id level) (slots h.params level)
     && ((ltb id h.built && leb level (get_or levels id 0)) || eqb (count_at h.params links id level) 0)
 
--- a test of each entry of a list
-unfoldable pub every : (ℕ → Bool) → List ℕ → Bool
-every test [] = true
-every test (x ∷ xs) = test x && every test xs
-
 abbrev pub is_nothing : ℕ → Bool
 is_nothing x = eqb x 0
 
 -- "R7 slots past a count are 0."
 unfoldable pub r7 : Header → List ℕ → ℕ → ℕ → Bool
-r7 h links id level = every is_nothing (slack_at h.params links id level)
+r7 h links id level = list_all is_nothing (slack_at h.params links id level)
 
 -- "R8 a listed id is built, is not the owner, and has at least the list's level."
 abbrev pub may_list : Header → List ℕ → ℕ → ℕ → ℕ → Bool
 may_list h levels id level x = ltb x h.built && not (eqb x id) && leb level (get_or levels x 0)
 
 unfoldable pub r8 : Header → List ℕ → List ℕ → ℕ → ℕ → Bool
-r8 h levels links id level = every (may_list h levels id level) (list_at h.params links id level)
+r8 h levels links id level = list_all (may_list h levels id level) (list_at h.params links id level)
 
 -- "R9 no list holds an id twice."
-abbrev pub is_other : ℕ → ℕ → Bool
-is_other x y = not (eqb y x)
+abbrev pub contains : ℕ → List ℕ → Bool
+contains x xs = list_any (λ y. eqb y x) xs
 
 unfoldable pub distinct : List ℕ → Bool
 distinct [] = true
-distinct (x ∷ xs) = every (is_other x) xs && distinct xs
+distinct (x ∷ xs) = not (contains x xs) && distinct xs
 
 unfoldable pub r9 : Header → List ℕ → ℕ → ℕ → Bool
 r9 h links id level = distinct (list_at h.params links id level)

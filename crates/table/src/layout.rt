@@ -1,6 +1,6 @@
 // Where things stand in the four tables.
-ghost use Rattle.std.specs.Prelude.{◌≡◌, ◌<◌, ◌^◌, min};
-ghost use Rattle.table.specs.Layout.{HasList, block, slots, list_start, lengths_hold, count_at, list_at, slack_at};
+ghost use Rattle.std.specs.Prelude.{◌≡◌, ◌<◌, ◌^◌};
+ghost use Rattle.table.specs.Layout.{block, slots, list_start, lengths_hold};
 
 use kinds::{Id, Level};
 use params::{HNSWParams, Header};
@@ -18,9 +18,10 @@ pub fn slots_len(params: HNSWParams, level: Level) -> usize
     ensures { result ≡ slots params level.0 }
 {
     if level.0 == 0 {
-        return params.n_neighbor0 as usize;
+        params.n_neighbor0 as usize
+    } else {
+        params.n_neighbor as usize
     }
-    params.n_neighbor as usize
 }
 
 // Where a list's count stands; its slots stand behind it.
@@ -33,7 +34,7 @@ pub fn list_start(params: HNSWParams, id: Id, level: Level) -> usize
         return first;
     }
     let above = level.0 as usize - 1;
-    first + (1 + params.n_neighbor0 as usize + above * (1 + params.n_neighbor as usize))
+    first + 1 + params.n_neighbor0 as usize + above * (1 + params.n_neighbor as usize)
 }
 
 // The four tables have the lengths that the header says.
@@ -48,60 +49,8 @@ pub fn lengths_hold(
     ensures { result ≡ lengths_hold header vectors levels marks links }
 {
     let capacity = header.params.max_item as usize;
-    if vectors != capacity * header.dimension as usize {
-        return false;
-    }
-    if levels != capacity {
-        return false;
-    }
-    if marks != capacity {
-        return false;
-    }
-    links == capacity * block_len(header.params)
-}
-
-// A list's count.
-#[tactic(auto, unfolding(crate::specs::Layout::count_at))]
-pub fn count_at(params: HNSWParams, links: &[u16], id: Id, level: Level) -> usize
-    requires { HasList params links.now id.0 level.0 }
-    ensures { result ≡ count_at params links.now id.0 level.0 }
-{
-    let start = list_start(params, id, level);
-    links[start] as usize
-}
-
-// The ids that a list holds: at most as many as it has slots.
-#[tactic(auto, unfolding(crate::specs::Layout::list_at, crate::specs::Layout::slots_at))]
-pub fn list_at<'a>(params: HNSWParams, links: &'a [u16], id: Id, level: Level) -> &'a [u16]
-    requires { HasList params links.now id.0 level.0 }
-    ensures { result.now ≡ list_at params links.now id.0 level.0 }
-{
-    let from = list_start(params, id, level) + 1;
-    let len = at_most(count_at(params, links, id, level), slots_len(params, level));
-    let to = from + len;
-    &links[from..to]
-}
-
-// The slots past a list's count.
-#[tactic(auto, unfolding(crate::specs::Layout::slack_at, crate::specs::Layout::slots_at))]
-pub fn slack_at<'a>(params: HNSWParams, links: &'a [u16], id: Id, level: Level) -> &'a [u16]
-    requires { HasList params links.now id.0 level.0 }
-    ensures { result.now ≡ slack_at params links.now id.0 level.0 }
-{
-    let from = list_start(params, id, level) + 1;
-    let slots = slots_len(params, level);
-    let len = at_most(count_at(params, links, id, level), slots);
-    let past = from + len;
-    let to = from + slots;
-    &links[past..to]
-}
-
-// The lesser of two numbers.
-fn at_most(n: usize, most: usize) -> usize
-    ensures { result ≡ min n most }
-{
-    if n < most {
-        return n;
-    }
-    most
+    vectors == capacity * header.dimension as usize
+        && levels == capacity
+        && marks == capacity
+        && links == capacity * block_len(header.params)
 }

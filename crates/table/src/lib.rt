@@ -15,25 +15,70 @@ ghost use Rattle.table.specs.Verdict.{verdict_of};
 
 use kinds::{Id, Level};
 use params::Header;
+use std::error::Error;
+use std::fmt;
 
-// What the test of the rules answers: the first broken rule, the lowest id concerned, and for R6 to R9 the lowest level of that id.
-#[derive(Clone, Copy)]
-pub enum Verdict {
-    Passes,
-    Breaks(u8, Id, Level),
+// The first broken rule, with the lowest id concerned, and for R6 to R9 the lowest level of that id.
+#[derive(Clone, Copy, Debug, PartialEq, Eq)]
+pub enum Broken {
+    R1,
+    R2,
+    R3(Id),
+    R4(Id),
+    R5(Id),
+    R6(Id, Level),
+    R7(Id, Level),
+    R8(Id, Level),
+    R9(Id, Level),
 }
 
+impl Broken {
+    fn reason(self) -> &'static str {
+        match self {
+            Broken::R1 => "more ids are built than added, or added than there is room for",
+            Broken::R2 => "the metric is unknown, or unset although ids are built",
+            Broken::R3(_) => "its level is not one that it may have",
+            Broken::R4(_) => "its mark is not one that it may have",
+            Broken::R5(_) => "a coordinate is not finite, or not zero before the id is added",
+            Broken::R6(_, _) => "the list's count is above its slots, or no list may be here",
+            Broken::R7(_, _) => "a slot past the list's count is not zero",
+            Broken::R8(_, _) => "the list holds its owner, or an id not built or not that high",
+            Broken::R9(_, _) => "the list holds an id twice",
+        }
+    }
+}
+
+impl fmt::Display for Broken {
+    fn fmt<W: fmt::Write>(&self, f: &mut fmt::Formatter<W>) -> fmt::Result {
+        let why = self.reason();
+        match self {
+            Broken::R1 => write!(f, "R1: {why}"),
+            Broken::R2 => write!(f, "R2: {why}"),
+            Broken::R3(id) => write!(f, "R3: id {}: {why}", id.0),
+            Broken::R4(id) => write!(f, "R4: id {}: {why}", id.0),
+            Broken::R5(id) => write!(f, "R5: id {}: {why}", id.0),
+            Broken::R6(id, level) => write!(f, "R6: id {}, level {}: {why}", id.0, level.0),
+            Broken::R7(id, level) => write!(f, "R7: id {}, level {}: {why}", id.0, level.0),
+            Broken::R8(id, level) => write!(f, "R8: id {}, level {}: {why}", id.0, level.0),
+            Broken::R9(id, level) => write!(f, "R9: id {}, level {}: {why}", id.0, level.0),
+        }
+    }
+}
+
+impl Error for Broken {}
+
 // The rules R1 to R9 in their order. Bounds and lengths are tested before.
-pub fn test(header: Header, vectors: &[f32], levels: &[u8], marks: &[u8], links: &[u16]) -> Verdict
+pub fn test(
+    header: Header,
+    vectors: &[f32],
+    levels: &[u8],
+    marks: &[u8],
+    links: &[u16],
+) -> Result<(), Broken>
     requires { (within_bounds header ≡ true) × (lengths_hold header (length vectors.now) (length levels.now) (length marks.now) (length links.now) ≡ true) }
     ensures { result ≡ verdict_of header vectors.now levels.now marks.now links.now }
 {
-    if !rules::r1_holds(header) {
-        return Verdict::Breaks(1, Id(0), Level(0));
-    }
-    let columns = places::test_r2_to_r5(header, vectors, levels, marks);
-    match columns {
-        Verdict::Breaks(_, _, _) => columns,
-        Verdict::Passes => owners::test_r6_to_r9(header, levels, links),
-    }
+    places::test_r1(header)?;
+    places::test_r2_to_r5(header, vectors, levels, marks)?;
+    owners::test_r6_to_r9(header, levels, links)
 }

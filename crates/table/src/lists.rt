@@ -1,123 +1,110 @@
-// The rules R6 to R9, each as a test of one list.
-ghost use Rattle.std.specs.Prelude.{◌≡◌, ℕ, ◌<◌, ◌≤◌, length, drop};
-ghost use Rattle.table.specs.Layout.{HasList};
-ghost use Rattle.table.specs.Rules.{r6, r7, r8, r9, every, is_nothing, is_other, may_list, distinct};
+// A list of the link table, and the rules R6 to R9, each as a test of one list.
+ghost use Rattle.std.specs.Prelude.{◌≡◌, ℕ, ◌<◌, ◌≤◌, length};
+ghost use Rattle.table.specs.Layout.{HasList, count_at, slots_at, list_at, slack_at};
+ghost use Rattle.table.specs.Rules.{r6, r7, r8, r9, is_nothing, may_list, distinct};
 
 use crate::layout;
 use kinds::{Id, Level};
 use params::Header;
 
-#[tactic(auto, unfolding(crate::specs::Rules::r6))]
-pub fn r6_holds(header: Header, levels: &[u8], links: &[u16], id: Id, level: Level) -> bool
-    requires { HasList header.params links.now id.0 level.0 × (id.0 < length levels.now) }
-    ensures { result ≡ r6 header levels.now links.now id.0 level.0 }
-{
-    let count = layout::count_at(header.params, links, id, level);
-    if layout::slots_len(header.params, level) < count {
-        return false;
-    }
-    if header.built <= id.0 {
-        return count == 0;
-    }
-    let i = id.0 as usize;
-    if levels[i] < level.0 {
-        return count == 0;
-    }
-    true
+// The list of an id at a level, which lies within the table.
+#[derive(Clone, Copy)]
+pub struct List<'a> {
+    pub header: Header,
+    pub links: &'a [u16],
+    pub id: Id,
+    pub level: Level,
+    pub ghost within: { HasList header.params links.now id.0 level.0 },
 }
 
-fn is_nothing(list: &[u16]) -> bool
-    ensures { result ≡ every is_nothing list.now }
-{
-    let mut j = 0;
-    while j < list.len() {
-        if list[j] != 0 {
-            return false;
-        }
-        j += 1;
+impl<'a> List<'a> {
+    // How many ids it says that it holds.
+    #[tactic(auto, unfolding(crate::specs::Layout::count_at))]
+    pub fn count(self) -> usize
+        ensures { result ≡ count_at self.entry.header.params self.entry.links.now self.entry.id.0 self.entry.level.0 }
+    {
+        let start = layout::list_start(self.header.params, self.id, self.level);
+        self.links[start] as usize
     }
-    true
-}
 
-#[tactic(auto, unfolding(crate::specs::Rules::r7))]
-pub fn r7_holds(header: Header, links: &[u16], id: Id, level: Level) -> bool
-    requires { HasList header.params links.now id.0 level.0 }
-    ensures { result ≡ r7 header links.now id.0 level.0 }
-{
-    is_nothing(layout::slack_at(header.params, links, id, level))
-}
-
-// An id that a list of this owner and level may hold.
-fn may_list(header: Header, levels: &[u8], id: Id, level: Level, listed: Id) -> bool
-    requires { header.built ≤ length levels.now }
-    ensures { result ≡ may_list header levels.now id.0 level.0 listed.0 }
-{
-    if header.built <= listed.0 {
-        return false;
+    #[tactic(auto, unfolding(crate::specs::Layout::slots_at))]
+    fn slots(self) -> &'a [u16]
+        ensures { result.now ≡ slots_at self.entry.header.params self.entry.links.now self.entry.id.0 self.entry.level.0 }
+    {
+        let from = layout::list_start(self.header.params, self.id, self.level) + 1;
+        &self.links[from..from + layout::slots_len(self.header.params, self.level)]
     }
-    if listed.0 == id.0 {
-        return false;
-    }
-    let i = listed.0 as usize;
-    level.0 <= levels[i]
-}
 
-fn all_may_be_listed(header: Header, levels: &[u8], list: &[u16], id: Id, level: Level) -> bool
-    requires { header.built ≤ length levels.now }
-    ensures { result ≡ every (may_list header levels.now id.0 level.0) list.now }
-{
-    let mut j = 0;
-    while j < list.len() {
-        if !may_list(header, levels, id, level, Id(list[j])) {
-            return false;
-        }
-        j += 1;
+    // The ids that it holds: at most as many as it has slots.
+    #[tactic(auto, unfolding(crate::specs::Layout::list_at))]
+    pub fn ids(self) -> &'a [u16]
+        ensures { result.now ≡ list_at self.entry.header.params self.entry.links.now self.entry.id.0 self.entry.level.0 }
+    {
+        let slots = self.slots();
+        &slots[..self.count().min(slots.len())]
     }
-    true
-}
 
-#[tactic(auto, unfolding(crate::specs::Rules::r8))]
-pub fn r8_holds(header: Header, levels: &[u8], links: &[u16], id: Id, level: Level) -> bool
-    requires { HasList header.params links.now id.0 level.0 × (header.built ≤ length levels.now) }
-    ensures { result ≡ r8 header levels.now links.now id.0 level.0 }
-{
-    let list = layout::list_at(header.params, links, id, level);
-    all_may_be_listed(header, levels, list, id, level)
-}
-
-// No entry of the list from `from` on is x.
-#[tactic(auto, using(crate::proofs::EveryLaws::without_fails, crate::proofs::EveryLaws::without_passes, crate::proofs::EveryLaws::every_ended))]
-fn is_without(list: &[u16], from: usize, x: u16) -> bool
-    requires { from ≤ length list.now }
-    ensures { result ≡ every (is_other x) (drop from list.now) }
-{
-    let mut j = from;
-    while j < list.len() {
-        if list[j] == x {
-            return false;
-        }
-        j += 1;
+    // Its slots past its count.
+    #[tactic(auto, unfolding(crate::specs::Layout::slack_at))]
+    pub fn slack(self) -> &'a [u16]
+        ensures { result.now ≡ slack_at self.entry.header.params self.entry.links.now self.entry.id.0 self.entry.level.0 }
+    {
+        let slots = self.slots();
+        &slots[self.count().min(slots.len())..]
     }
-    true
+
+    #[tactic(auto, unfolding(crate::specs::Rules::r6))]
+    pub fn r6_holds(self, levels: &[u8]) -> bool
+        requires { self.id.0 < length levels.now }
+        ensures { result ≡ r6 self.entry.header levels.now self.entry.links.now self.entry.id.0 self.entry.level.0 }
+    {
+        let count = self.count();
+        let may_hold = self.id.0 < self.header.built && self.level.0 <= levels[self.id.0 as usize];
+        count <= layout::slots_len(self.header.params, self.level) && (may_hold || count == 0)
+    }
+
+    #[tactic(auto, unfolding(crate::specs::Rules::r7))]
+    pub fn r7_holds(self) -> bool
+        ensures { result ≡ r7 self.entry.header self.entry.links.now self.entry.id.0 self.entry.level.0 }
+    {
+        self.slack().iter().all(|x| *x == 0)
+    }
+
+    // An id that the list may hold.
+    fn may_hold(self, levels: &[u8], listed: Id) -> bool
+        requires { self.header.built ≤ length levels.now }
+        ensures { result ≡ may_list self.entry.header levels.now self.entry.id.0 self.entry.level.0 listed.0 }
+    {
+        listed.0 < self.header.built
+            && listed.0 != self.id.0
+            && self.level.0 <= levels[listed.0 as usize]
+    }
+
+    #[tactic(auto, unfolding(crate::specs::Rules::r8))]
+    pub fn r8_holds(self, levels: &[u8]) -> bool
+        requires { self.header.built ≤ length levels.now }
+        ensures { result ≡ r8 self.entry.header levels.now self.entry.links.now self.entry.id.0 self.entry.level.0 }
+    {
+        self.ids().iter().all(|x| self.may_hold(levels, Id(*x)))
+    }
+
+    #[tactic(auto, unfolding(crate::specs::Rules::r9))]
+    pub fn r9_holds(self) -> bool
+        ensures { result ≡ r9 self.entry.header self.entry.links.now self.entry.id.0 self.entry.level.0 }
+    {
+        is_distinct(self.ids())
+    }
 }
 
 fn is_distinct(list: &[u16]) -> bool
     ensures { result ≡ distinct list.now }
 {
-    let mut j = 0;
-    while j < list.len() {
-        if !is_without(list, j + 1, list[j]) {
+    let mut left = list;
+    while let Some((x, rest)) = left.split_first() {
+        if rest.contains(x) {
             return false;
         }
-        j += 1;
+        left = rest;
     }
     true
-}
-
-#[tactic(auto, unfolding(crate::specs::Rules::r9))]
-pub fn r9_holds(header: Header, links: &[u16], id: Id, level: Level) -> bool
-    requires { HasList header.params links.now id.0 level.0 }
-    ensures { result ≡ r9 header links.now id.0 level.0 }
-{
-    is_distinct(layout::list_at(header.params, links, id, level))
 }

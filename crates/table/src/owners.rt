@@ -1,83 +1,55 @@
-// The first list that breaks a rule from R6 to R9: by owner, then by level.
-ghost use Rattle.std.specs.Prelude.{◌≡◌, ℕ, ◌+◌, ◌<◌, ◌≤◌};
-ghost use Rattle.table.specs.Layout.{Shaped};
-ghost use Rattle.table.specs.Verdict.{list_rule, broken_level, broken_owner, verdict6to9};
+// The rules R6 to R9, each at the first list that breaks it: by owner, then by level.
+ghost use Rattle.std.specs.Prelude.{◌≡◌, ℕ, ◌+◌, ◌*◌, ◌<◌, ◌≤◌, Bool, true, length};
+ghost use Rattle.params.specs.Bounds.{within_bounds};
+ghost use Rattle.kinds.specs.declared.Id.{Id};
+ghost use Rattle.kinds.specs.declared.Level.{Level};
+ghost use Rattle.table.specs.declared.Broken.{Broken};
+ghost use Rattle.table.specs.declared.lists.List.{List};
+ghost use Rattle.table.specs.Layout.{block, Shaped};
+ghost use Rattle.table.specs.Verdict.{each_list, verdict6to9};
 
-use crate::{Verdict, lists};
+use crate::Broken;
+use crate::lists::List;
 use kinds::{Id, Level};
 use params::Header;
 
-// A rule from 6 to 9, of one list.
-fn list_holds(rule: u8, header: Header, levels: &[u8], links: &[u16], id: Id, level: Level) -> bool
-    requires { Shaped header levels.now links.now × (id.0 < header.params.max_item) × (level.0 ≤ header.params.max_level) }
-    ensures { result ≡ list_rule rule header levels.now links.now id.0 level.0 }
+// A rule of all lists: it holds of each, or is broken by the first of which it does not.
+#[tactic(auto, using(params::proofs::BoundLaws::bounds_hold))]
+fn each_list<'a, F: Fn(List<'a>) -> bool, B: Fn(Id, Level) -> Broken>(
+    header: Header,
+    links: &'a [u16],
+    holds: F,
+    broken: B,
+) -> Result<(), Broken>
+    requires bounded { within_bounds header ≡ true }
+    requires whole { length links.now ≡ header.params.max_item * block header.params }
+    requires testable { (list : List) → list.header ≡ header → list.links.now ≡ links.now → list.id.0 < header.params.max_item → F.pre holds list }
+    requires tellable { B.IsAlwaysCallable broken }
+    ensures { (rule : ℕ → ℕ → Bool) (told : ℕ → ℕ → Broken) → ((list : List) (b : Bool) → list.header ≡ header → list.links.now ≡ links.now → F.post holds list b → b ≡ rule list.id.0 list.level.0) → ((id : Id) (level : Level) (e : Broken) → B.post broken id level e → e ≡ told id.0 level.0) → result ≡ each_list header rule told }
 {
-    if rule == 6 {
-        return lists::r6_holds(header, levels, links, id, level);
-    }
-    if rule == 7 {
-        return lists::r7_holds(header, links, id, level);
-    }
-    if rule == 8 {
-        return lists::r8_holds(header, levels, links, id, level);
-    }
-    lists::r9_holds(header, links, id, level)
-}
-
-// The lowest level of an id at which a rule is broken; one above the highest where it is not.
-fn broken_level(rule: u8, header: Header, levels: &[u8], links: &[u16], id: Id) -> u8
-    requires { Shaped header levels.now links.now × (id.0 < header.params.max_item) }
-    ensures { (result ≡ broken_level rule header levels.now links.now id.0) × (result ≤ header.params.max_level + 1) }
-{
-    let mut level: u8 = 0;
-    while level as u16 <= header.params.max_level {
-        if !list_holds(rule, header, levels, links, id, Level(level)) {
-            return level;
+    for id in 0..header.params.max_item {
+        for level in 0..=header.params.max_level as u8 {
+            let (id, level) = (Id(id), Level(level));
+            let list = List {
+                header,
+                links,
+                id,
+                level,
+            };
+            if !holds(list) {
+                return Err(broken(id, level));
+            }
         }
-        level += 1;
     }
-    level
+    Ok(())
 }
 
-// The lowest id that breaks a rule; the capacity where none does.
-fn broken_owner(rule: u8, header: Header, levels: &[u8], links: &[u16]) -> u16
-    requires { Shaped header levels.now links.now }
-    ensures { result ≡ broken_owner rule header levels.now links.now }
-{
-    let mut id = 0;
-    while id < header.params.max_item {
-        let level = broken_level(rule, header, levels, links, Id(id));
-        if level as u16 <= header.params.max_level {
-            return id;
-        }
-        id += 1;
-    }
-    id
-}
-
-pub fn test_r6_to_r9(header: Header, levels: &[u8], links: &[u16]) -> Verdict
+pub fn test_r6_to_r9(header: Header, levels: &[u8], links: &[u16]) -> Result<(), Broken>
     requires { Shaped header levels.now links.now }
     ensures { result ≡ verdict6to9 header levels.now links.now }
 {
-    let counts = broken_owner(6, header, levels, links);
-    if counts < header.params.max_item {
-        let level = broken_level(6, header, levels, links, Id(counts));
-        return Verdict::Breaks(6, Id(counts), Level(level));
-    }
-    let slack = broken_owner(7, header, levels, links);
-    if slack < header.params.max_item {
-        let level = broken_level(7, header, levels, links, Id(slack));
-        return Verdict::Breaks(7, Id(slack), Level(level));
-    }
-    let listed = broken_owner(8, header, levels, links);
-    if listed < header.params.max_item {
-        let level = broken_level(8, header, levels, links, Id(listed));
-        return Verdict::Breaks(8, Id(listed), Level(level));
-    }
-    let twice = broken_owner(9, header, levels, links);
-    if twice < header.params.max_item {
-        let level = broken_level(9, header, levels, links, Id(twice));
-        return Verdict::Breaks(9, Id(twice), Level(level));
-    }
-    Verdict::Passes
+    each_list(header, links, |list| list.r6_holds(levels), Broken::R6)?;
+    each_list(header, links, |list| list.r7_holds(), Broken::R7)?;
+    each_list(header, links, |list| list.r8_holds(levels), Broken::R8)?;
+    each_list(header, links, |list| list.r9_holds(), Broken::R9)
 }

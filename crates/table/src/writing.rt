@@ -1,6 +1,6 @@
 // Writing a list in place.
-ghost use Rattle.std.specs.Prelude.{◌≡◌, ◌<◌, ◌≤◌, length, get_or};
-ghost use Rattle.table.specs.Layout.{HasList, slots, count_at, padded, replaced, appended};
+ghost use Rattle.std.specs.Prelude.{◌≡◌, ◌<◌, ◌≤◌, length};
+ghost use Rattle.table.specs.Layout.{HasList, slots, count_at, replaced, appended};
 
 use crate::layout;
 use kinds::{Id, Level};
@@ -18,26 +18,6 @@ pub fn append(params: HNSWParams, links: &mut [u16], id: Id, level: Level, liste
     links[start] = count + 1;
 }
 
-fn id_or_nothing(ids: &[u16], j: usize) -> u16
-    ensures { result ≡ get_or ids.now j 0 }
-{
-    if j < ids.len() {
-        return ids[j];
-    }
-    0
-}
-
-// The ids, and nothing in the slots behind them.
-fn pad(slots: &mut [u16], ids: &[u16])
-    ensures { slots.new ≡ padded (length slots.old) ids.now }
-{
-    let mut j = 0;
-    while j < slots.len() {
-        slots[j] = id_or_nothing(ids, j);
-        j += 1;
-    }
-}
-
 // Makes a list hold these ids and no other.
 pub fn replace(params: HNSWParams, links: &mut [u16], id: Id, level: Level, ids: &[u16])
     requires { HasList params links.old id.0 level.0 × (length ids.now ≤ slots params level.0) }
@@ -45,7 +25,8 @@ pub fn replace(params: HNSWParams, links: &mut [u16], id: Id, level: Level, ids:
 {
     let start = layout::list_start(params, id, level);
     let from = start + 1;
-    let to = from + layout::slots_len(params, level);
-    pad(&mut links[from..to], ids);
+    let past = from + ids.len();
+    links[from..past].copy_from_slice(ids);
+    links[past..from + layout::slots_len(params, level)].fill(0);
     links[start] = ids.len() as u16;
 }

@@ -1,17 +1,26 @@
 -- `is_distinct` meets its contract. Assumes nothing.
-use Rattle.std.proofs.Common.{◌∙◌, arith}
-use Rattle.table.proofs.EveryLaws.{distinct_passes, distinct_fails, distinct_ended}
+use Rattle.std.proofs.Common.{◌≡◌, ℕ, Bool, true, false, List, [], ◌∷◌, length, refl, ◌∙◌, arith}
+use Rattle.table.specs.Rules.{contains, distinct}
 use Rattle.table.proofs.lists.is_distinct.Goals as goal
 
-pub returns-then-not-is_without : goal.returns-then-not-is_without
-returns-then-not-is_without c =
-    let l = c.loop-j in
-    distinct_fails c.args.list.now l.j _ (omega arith) c.is_without.ensures c.if-not-is_without.true ∙ l.invariant.1
+twice : (x : ℕ) (rest left : List ℕ) (t : Bool) → left ≡ x ∷ rest → t ≡ contains x rest → t ≡ true → false ≡ distinct left
+unfolding distinct
+twice x rest left t e f p = rw (e, ← f, p)
 
-pub loop-j-preserved : goal.loop-j-preserved
-loop-j-preserved c =
-    let l = c.loop-j in
-    (omega arith, distinct_passes c.args.list.now l.j _ (omega arith) c.is_without.ensures c.if-not-is_without.false ∙ l.invariant.1)
+once : (x : ℕ) (rest left : List ℕ) (t : Bool) → left ≡ x ∷ rest → t ≡ contains x rest → t ≡ false → distinct rest ≡ distinct left
+unfolding distinct
+once x rest left t e f p = rw (e, ← f, p)
+
+none : (left : List ℕ) → length left ≡ 0 → true ≡ distinct left
+unfolding distinct
+none [] e = refl
+none (x ∷ rest) e = absurd (omega arith)
+
+pub returns-then-contains : goal.returns-then-contains
+returns-then-contains c = twice c.in-Some.x.now c.in-Some.rest.now c.loop-x.left.now c.contains.result c.in-Some.ensures.cases.0 c.contains.ensures.value c.if-contains.true ∙ c.loop-x.invariant
+
+pub loop-x-preserved : goal.loop-x-preserved
+loop-x-preserved c = once c.in-Some.x.now c.in-Some.rest.now c.loop-x.left.now c.contains.result c.in-Some.ensures.cases.0 c.contains.ensures.value c.if-contains.false ∙ c.loop-x.invariant
 
 pub returns : goal.returns
-returns c = distinct_ended c.args.list.now c.loop-j.j (omega arith) ∙ c.loop-j.invariant.1
+returns c = none c.loop-x.left.now c.in_default.ensures.cases ∙ c.loop-x.invariant
