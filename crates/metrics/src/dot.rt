@@ -1,4 +1,4 @@
-ghost use Rattle.std.specs.Prelude.{◌≡◌, length};
+ghost use Rattle.std.specs.Prelude.{◌≡◌};
 ghost use Rattle.std.specs.Float.Ieee.{neg};
 ghost use Rattle.metrics.specs.Chain.{total, product};
 
@@ -16,7 +16,6 @@ impl Term for Product {
 
 // Negated, so that smaller means closer.
 pub fn dot_product(a: &[f32], b: &[f32]) -> f32
-    requires { length a.now ≡ length b.now }
     ensures { result ≡ neg (total product a.now b.now) }
 {
     -chain::total::<Product>(a, b)

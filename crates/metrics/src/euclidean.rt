@@ -1,4 +1,4 @@
-ghost use Rattle.std.specs.Prelude.{◌≡◌, length};
+ghost use Rattle.std.specs.Prelude.{◌≡◌};
 ghost use Rattle.metrics.specs.Chain.{total, squared};
 
 use crate::chain::{self, Term};
@@ -16,7 +16,6 @@ impl Term for Squared {
 
 // The sum of squared differences: no root is taken.
 pub fn euclidean_distance(a: &[f32], b: &[f32]) -> f32
-    requires { length a.now ≡ length b.now }
     ensures { result ≡ total squared a.now b.now }
 {
     chain::total::<Squared>(a, b)

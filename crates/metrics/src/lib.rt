@@ -7,7 +7,7 @@ pub mod dot;
 pub mod euclidean;
 pub mod manhattan;
 
-ghost use Rattle.std.specs.Prelude.{◌≡◌, length};
+ghost use Rattle.std.specs.Prelude.{◌≡◌};
 ghost use Rattle.metrics.specs.Distance.{number_of, metric_of, measured, distance_of};
 
 use cut::to_finite;
@@ -61,7 +61,6 @@ impl Metric {
     // Before the cut. A metric that has no kernel here has no distance: NaN.
     #[tactic(auto, using(crate::proofs::CutLaws::nan_is))]
     fn measured(self, a: &[f32], b: &[f32]) -> f32
-        requires { length a.now ≡ length b.now }
         ensures { result ≡ measured self a.now b.now }
     {
         match self {
@@ -75,7 +74,6 @@ impl Metric {
     // Total, and always finite.
     #[tactic(auto, unfolding(crate::specs::Distance::distance_of))]
     pub fn distance(self, a: &[f32], b: &[f32]) -> Distance
-        requires { length a.now ≡ length b.now }
         ensures { result ≡ record { value = distance_of self a.now b.now } }
     {
         Distance {

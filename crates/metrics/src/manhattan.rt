@@ -1,4 +1,4 @@
-ghost use Rattle.std.specs.Prelude.{◌≡◌, length};
+ghost use Rattle.std.specs.Prelude.{◌≡◌};
 ghost use Rattle.metrics.specs.Chain.{total, apart};
 
 use crate::chain::{self, Term};
@@ -18,7 +18,6 @@ impl Term for Apart {
 }
 
 pub fn manhattan_distance(a: &[f32], b: &[f32]) -> f32
-    requires { length a.now ≡ length b.now }
     ensures { result ≡ total apart a.now b.now }
 {
     chain::total::<Apart>(a, b)
