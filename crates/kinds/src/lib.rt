@@ -18,7 +18,7 @@ pub struct Id(pub u16);
 pub struct Level(pub u8);
 
 impl Order {
-    // Total: a NaN, which no distance is, counts as 0.
+    // Total: a NaN, which no distance is, counts as 0. No From, which would lose nothing: both zeros give 0.
     #[tactic(auto, using(crate::proofs::OrderLaws::no_nan, crate::proofs::OrderLaws::of_nan, crate::proofs::OrderLaws::of_plus, crate::proofs::OrderLaws::of_minus))]
     pub fn of(x: f32) -> Order
         ensures { result ≡ record { 0 = order_of x } }

@@ -19,7 +19,7 @@ pub extern "C" fn leaves_order(x: f32) -> i32
     Order::of(x).0
 }
 
-// Vectors of unequal length have no distance: the largest finite f32.
+// By the metric's number, as C gives it. Vectors of unequal length have no distance: the largest finite f32.
 #[unsafe(no_mangle)]
 pub extern "C" fn leaves_distance(metric: u16, a: &[f32], b: &[f32]) -> f32
     ensures { result ≡ distance_or_largest (metric_of metric) a.now b.now }
@@ -30,7 +30,7 @@ pub extern "C" fn leaves_distance(metric: u16, a: &[f32], b: &[f32]) -> f32
     Metric::from(metric).distance(a, b).value
 }
 
-// The heap's three calls. As there, it is the caller who sees to the lengths.
+// The heap's three calls, on what C lends: two arrays and a length. As there, it is the caller who sees to the lengths.
 #[unsafe(no_mangle)]
 pub extern "C" fn leaves_push(
     ids: &mut [u16],
@@ -53,7 +53,7 @@ pub extern "C" fn leaves_push(
     });
 }
 
-// The id of a greatest entry, and its distance.
+// The id of a greatest entry, and its distance, which C takes through a pointer.
 #[unsafe(no_mangle)]
 pub extern "C" fn leaves_pop(
     ids: &mut [u16],

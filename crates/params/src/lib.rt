@@ -55,6 +55,7 @@ impl HNSWParams {
 
     pub const MAX_WIDTH: u16 = 512;
 
+    // One for each field, as 01 has it: no parameter can name a field, and a macro may write no clause.
     pub fn max_item(mut self, new_max_item: u16) -> HNSWParams
         ensures { result ≡ with_max_item new_max_item self }
     {
@@ -111,6 +112,7 @@ impl HNSWParams {
 pub struct Header {
     pub dimension: u16,
     pub params: HNSWParams,
+    // A number and no Metric: every header is taken, and rule R2 tests it.
     pub metric: u16,
     pub added: u16,
     pub built: u16,

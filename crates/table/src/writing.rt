@@ -1,4 +1,5 @@
-// Writing a list in place.
+// Writing a list in place. Table, id and level come one by one: a struct that holds `&mut` links would have to promise in each
+// contract that these are still the same links.
 ghost use Rattle.std.specs.Prelude.{◌≡◌, ◌<◌, ◌≤◌, length};
 ghost use Rattle.table.specs.Layout.{HasList, slots, count_at, replaced, appended};
 
