@@ -1,5 +1,4 @@
 pub mod SignLaws
-pub mod OrderLaws
 pub mod Magnitudes
 pub mod Compared
 pub mod Named

@@ -19,20 +19,21 @@ pub struct Level(pub u8);
 
 impl Order {
     // Total: a NaN, which no distance is, counts as 0. No From, which would lose nothing: both zeros give 0.
-    #[tactic(auto, using(crate::proofs::OrderLaws::no_nan, crate::proofs::OrderLaws::of_nan, crate::proofs::OrderLaws::of_plus, crate::proofs::OrderLaws::of_minus))]
+    #[tactic(auto, unfolding(crate::specs::Order::order_of))]
     pub fn of(x: f32) -> Order
         ensures { result ≡ record { 0 = order_of x } }
     {
-        if x != x {
+        if x.is_nan() {
             return Order(0);
         }
-        let bits = f32::to_bits(x);
+        let bits = x.to_bits();
         let low = bits % 0x8000_0000;
         let magnitude = low as i32;
         if bits < 0x8000_0000 {
-            return Order(magnitude);
+            Order(magnitude)
+        } else {
+            Order(-magnitude)
         }
-        Order(-magnitude)
     }
 
     // The candidate heap's order, nearest on top. Of the 32-bit numbers only the least has no negation, and no float has it.
