@@ -1,13 +1,12 @@
 -- What holds of every distance, whatever the metric and the vectors: it is finite, and it is an f32. Assumes nothing.
 use mathlib.Core.Path.{◌≡◌, refl}
-use Prim.Native.Nat.{◌^◌, ◌<◌}
 use mathlib.Core.Bool.{true, false, not}
 use mathlib.Core.List.{List, [], ◌∷◌}
 use lib.Dec.{T}
 use mathlib.Core.Logic.{◌↔◌}
 use lib.Signed.{lt_z}
-use lib.Ieee.{Float, nan, inf, fin, binary32, neg, add, fits, is_nan, to_bits, of_bits, lt, eq}
-use lib.Ieee.Bits.{of_bits-fits, to_bits-lt}
+use lib.Ieee.{Float, nan, inf, fin, binary32, neg, add, fits, is_nan, of_bits, lt, eq}
+use lib.Ieee.Bits.{of_bits-fits}
 use lib.Ieee.Fits.{nan-fits, neg-fits, add-fits}
 use lib.Ieee.Scale.{finite}
 use Rattle.std.specs.List.{fold, zip}
@@ -57,7 +56,7 @@ pub distance_fits : (metric : Metric) (xs ys : List Float) → T (fits binary32 
 unfolding distance_of
 distance_fits metric xs ys = cut_fits (measured metric xs ys) (measured_fits metric xs ys)
 
--- so its bits can be taken, and are 32
+-- so its bits can be taken
 finite_no_nan : (x : Float) → T (finite x) → T (not (is_nan x))
 unfolding is_nan
 finite_no_nan nan h = h
@@ -66,9 +65,6 @@ finite_no_nan (fin s m e) h = tt
 
 pub distance_no_nan : (metric : Metric) (xs ys : List Float) (d : Distance) → d ≡ record { value = distance_of metric xs ys } → T (not (is_nan d.value))
 distance_no_nan metric xs ys d e = rw e (finite_no_nan (distance_of metric xs ys) (distance_finite metric xs ys))
-
-pub distance_bits_lt : (metric : Metric) (xs ys : List Float) (d : Distance) → d ≡ record { value = distance_of metric xs ys } → to_bits binary32 d.value < 2 ^ 32
-distance_bits_lt metric xs ys d e = rw e (to_bits-lt binary32 (distance_of metric xs ys) (distance_fits metric xs ys))
 
 -- and distances stand in the same order by their order numbers and as the floats that the Rust compares
 module _ (metric metric' : Metric) (xs ys xs' ys' : List Float) where

@@ -1,4 +1,4 @@
-// The one loop of the three kernels. Coordinates in index order, one sum from +0.0, each operation rounds once: nothing is
+// The sum that the three kernels share. Coordinates in index order, one sum from +0.0, each operation rounds once: nothing is
 // fused or reordered. Where one vector is longer, its coordinates past the other's end are left out.
 ghost use Rattle.std.specs.Prelude.{◌≡◌, Float};
 ghost use Rattle.metrics.specs.Chain.{total};
