@@ -49,6 +49,7 @@ fn coordinates_hold(header: Header, vectors: &[f32], id: Id) -> bool
     (from..from + dimension).all(|j| rules::r5_holds(header, vectors, j))
 }
 
+#[tactic(auto, unfolding(crate::specs::Verdict::verdict2to5))]
 pub fn test_r2_to_r5(
     header: Header,
     vectors: &[f32],

@@ -15,10 +15,6 @@ told4 id = R4 (id_of id)
 abbrev told5 : ℕ → Broken
 told5 id = R5 (id_of id)
 
-pub returns-then-not-r2_holds : goal.returns-then-not-r2_holds
-unfolding verdict2to5
-returns-then-not-r2_holds c = rw (sym c.r2_holds.ensures ∙ c.if-not-r2_holds.true)
-
 pub returns-in_err-each_id : goal.returns-in_err-each_id
 unfolding verdict2to5
 returns-in_err-each_id c =
