@@ -6,4 +6,5 @@ pub mod ApartLaws
 pub mod WritingLaws
 pub mod ReplaceLaws
 pub mod TestLaws
+pub mod RowLaws
 pub mod PassingLaws

@@ -1,17 +1,18 @@
 -- The test answers that a table passes exactly when all nine rules hold of it (`passes_exactly`). Assumes nothing.
 use mathlib.Core.Logic.{◌↔◌}
 use mathlib.Core.Path.{◌≡◌}
-use Prim.Native.Nat.{ℕ, ◌*◌, ◌/◌, ◌<◌, ◌≤◌}
+use Prim.Native.Nat.{ℕ, ◌*◌, ◌<◌, ◌≤◌}
 use mathlib.Core.List.{List}
 use lib.Ieee.{Float}
 use Rattle.std.specs.Prelude.{Ok}
 use Rattle.params.specs.declared.Header.{Header}
 use Rattle.table.specs.declared.Broken.TheVariants.{R1 as at1, R2 as at2, R3 as at3, R4 as at4, R5 as at5, R6 as at6, R7 as at7, R8 as at8, R9 as at9}
 use Rattle.table.specs.First.{unless, and_then, each}
-use Rattle.table.specs.Rules.{r1, r2, r3, r4, r5, r6, r7, r8, r9}
+use Rattle.table.specs.Rules.{r1, r2, r3, r4, r5_row, r6, r7, r8, r9}
 use Rattle.table.specs.Verdict.{id_of, level_of, verdict1, verdict2to5, each_list, verdict6to9, verdict_of}
 use Rattle.table.specs.Passing.{R1, R2, R3, R4, R5, R6, R7, R8, R9, Passing}
 use Rattle.table.proofs.FirstLaws.{unless_is, and_then_is, rule_is, lists_are}
+use Rattle.table.proofs.RowLaws.{rows_are}
 use Rattle.table.proofs.TestLaws.{r1_is, r2_is, r3_is, r4_is, r5_is, r6_is, r7_is, r8_is, r9_is}
 
 -- ---- R1, R2 to R5
@@ -31,8 +32,7 @@ pub verdict2to5_is : (h : Header) (vectors : List Float) (levels marks : List �
 unfolding verdict2to5
 verdict2to5_is h vectors levels marks =
     let n = h.params.max_item in
-    let m = n * h.dimension in
-    let v5 = each m (λ j. unless (r5 h vectors j) (at5 (id_of (j / h.dimension)))) in
+    let v5 = each n (λ id. unless (r5_row h vectors id) (at5 (id_of id))) in
     let v4 = each n (λ id. unless (r4 h marks id) (at4 (id_of id))) in
     let v3 = each n (λ id. unless (r3 h levels id) (at3 (id_of id))) in
     let v2 = unless (r2 h) at2 in
@@ -42,7 +42,8 @@ verdict2to5_is h vectors levels marks =
     let a2 = unless_is (r2 h) at2 in
     let a3 = rule_is (r3 h levels) (λ id. at3 (id_of id)) n in
     let a4 = rule_is (r4 h marks) (λ id. at4 (id_of id)) n in
-    let a5 = rule_is (r5 h vectors) (λ j. at5 (id_of (j / h.dimension))) m in (
+    let a5 = rule_is (r5_row h vectors) (λ id. at5 (id_of id)) n in
+    let rows = rows_are h vectors n in (
       λ e.
           let p = two.0 e in
           let q = three.0 p.1 in
@@ -51,13 +52,13 @@ verdict2to5_is h vectors levels marks =
             r2 = (r2_is h).0 (a2.0 p.0);
             r3 = λ id l. (r3_is h levels id).0 (a3.0 q.0 id l);
             r4 = λ id l. (r4_is h marks id).0 (a4.0 r.0 id l);
-            r5 = λ j l. (r5_is h vectors j).0 (a5.0 r.1 j l);
+            r5 = λ j l. (r5_is h vectors j).0 (rows.0 (a5.0 r.1) j l);
           },
       λ c. two.1 (
         a2.1 ((r2_is h).1 c.r2),
         three.1 (
           a3.1 (λ id l. (r3_is h levels id).1 (c.r3 id l)),
-          four.1 (a4.1 (λ id l. (r4_is h marks id).1 (c.r4 id l)), a5.1 (λ j l. (r5_is h vectors j).1 (c.r5 j l))),
+          four.1 (a4.1 (λ id l. (r4_is h marks id).1 (c.r4 id l)), a5.1 (rows.1 (λ j l. (r5_is h vectors j).1 (c.r5 j l)))),
         ),
       ),
     )

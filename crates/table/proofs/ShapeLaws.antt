@@ -12,7 +12,6 @@ use borrow.Author.Tests.{eqb-true, eq-eqb, ne_eqb}
 use Rattle.std.proofs.lemmas.Bool.{and_parts}
 use Rattle.params.specs.declared.HNSWParams.{HNSWParams}
 use Rattle.params.specs.declared.Header.{Header}
-use Rattle.params.proofs.BoundLaws.{Within, bounds_hold}
 use Rattle.table.specs.Layout.{block, slots, list_start, HasList, Shaped, lengths_hold}
 
 -- a list lies within its id's block
@@ -60,6 +59,3 @@ lengths_are h vectors levels marks links e =
       marks_are = eqb-true marks n ab.1;
       links_are = eqb-true links (n * block h.params) abc.1;
     }
-
-pub shape_bounds : (h : Header) (levels links : List ℕ) → Shaped h levels links → Within h
-shape_bounds h levels links s = bounds_hold h s.bounded

@@ -24,11 +24,6 @@ chosen_under false m n most a b = b
 pub slots_under : (p : HNSWParams) (level most : ℕ) → p.n_neighbor0 ≤ most → p.n_neighbor ≤ most → slots p level ≤ most
 slots_under p level most a b = chosen_under (eqb level 0) p.n_neighbor0 p.n_neighbor most a b
 
--- the two writes of the code, in its own numbers
-pub append_written : (p : HNSWParams) (links : List ℕ) (id level x start : ℕ) → start ≡ list_start p id level → set (set links (start + 1 + get_or links start 0) x) start (get_or links start 0 + 1) ≡ appended p links id level x
-unfolding appended
-append_written p links id level x start e = rw (count_is p links id level start e, e)
-
 -- ---- a list has one more id
 
 pub appended_count : (p : HNSWParams) (links : List ℕ) (id level x : ℕ) → HasList p links id level → count_at p (appended p links id level x) id level ≡ count_at p links id level + 1

@@ -1,6 +1,6 @@
 -- 01: "A table passes when, in this order:" the rules R1 to R9, each as a test at one place.
 use Rattle.std.specs.Prelude.{ℕ, ◌*◌, Bool, true, false, not, ◌&&◌, ◌||◌, cond, List, [], ◌∷◌, leb, ltb, eqb, Float, get_or}
-use Rattle.std.specs.List.{list_all, list_any}
+use Rattle.std.specs.List.{list_all, list_any, range_with_len}
 use Rattle.std.specs.Float.{nan, inf, fin}
 use Rattle.std.specs.Float.Ieee.Scale.{finite}
 use Rattle.params.specs.declared.Header.{Header}
@@ -34,6 +34,10 @@ is_zero (fin s m e) = not s && eqb m 0
 -- "R5 coordinates of added ids are finite; the rest are all zero bits." at the coordinate j of the whole table
 unfoldable pub r5 : Header → List Float → ℕ → Bool
 r5 h vectors j = cond (ltb j (h.added * h.dimension)) (finite (get_or vectors j nan)) (is_zero (get_or vectors j nan))
+
+-- the same at each coordinate of an id
+abbrev pub r5_row : Header → List Float → ℕ → Bool
+r5_row h vectors id = list_all (r5 h vectors) (range_with_len (id * h.dimension) h.dimension)
 
 -- "R6 no count exceeds its slots; counts are 0 on unbuilt ids and above an id's own level."
 unfoldable pub r6 : Header → List ℕ → List ℕ → ℕ → ℕ → Bool

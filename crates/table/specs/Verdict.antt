@@ -1,12 +1,12 @@
 -- The first broken rule in 01's order, and where: the lowest id concerned (a list's owner), and for R6 to R9 the lowest level within that id.
-use Rattle.std.specs.Prelude.{ℕ, ◌+◌, ◌*◌, ◌/◌, Bool, List, Float, Result}
+use Rattle.std.specs.Prelude.{ℕ, ◌+◌, Bool, List, Float, Result}
 use Rattle.kinds.specs.declared.Id.{Id}
 use Rattle.kinds.specs.declared.Level.{Level}
 use Rattle.params.specs.declared.Header.{Header}
 use Rattle.table.specs.declared.Broken.{Broken}
 use Rattle.table.specs.declared.Broken.TheVariants.{R1, R2, R3, R4, R5, R6, R7, R8, R9}
 use Rattle.table.specs.First.{unless, and_then, each}
-use Rattle.table.specs.Rules.{r1, r2, r3, r4, r5, r6, r7, r8, r9}
+use Rattle.table.specs.Rules.{r1, r2, r3, r4, r5_row, r6, r7, r8, r9}
 
 abbrev pub Verdict : Type 0
 Verdict = Result (Unit {0}) Broken
@@ -27,7 +27,7 @@ verdict2to5 h vectors levels marks =
     and_then (unless (r2 h) R2)
     (and_then (each n (λ id. unless (r3 h levels id) (R3 (id_of id))))
     (and_then (each n (λ id. unless (r4 h marks id) (R4 (id_of id))))
-    (each (n * h.dimension) (λ j. unless (r5 h vectors j) (R5 (id_of (j / h.dimension)))))))
+    (each n (λ id. unless (r5_row h vectors id) (R5 (id_of id))))))
 
 -- a rule of all lists, by owner, then by level
 abbrev pub each_list : Header → (ℕ → ℕ → Bool) → (ℕ → ℕ → Broken) → Verdict

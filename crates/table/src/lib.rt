@@ -68,6 +68,7 @@ impl fmt::Display for Broken {
 impl Error for Broken {}
 
 // The rules R1 to R9 in their order. Bounds and lengths are tested before.
+#[tactic(auto, using(params::proofs::BoundLaws::bounds_hold, crate::proofs::ShapeLaws::lengths_are), unfolding(crate::specs::Verdict::verdict_of))]
 pub fn test(
     header: Header,
     vectors: &[f32],

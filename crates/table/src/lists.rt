@@ -96,6 +96,7 @@ impl<'a> List<'a> {
     }
 }
 
+#[tactic(auto, unfolding(crate::specs::Rules::distinct))]
 fn is_distinct(list: &[u16]) -> bool
     ensures { result ≡ distinct list.now }
 {

@@ -14,7 +14,7 @@ use kinds::{Id, Level};
 use params::Header;
 
 // A rule of all lists: it holds of each, or is broken by the first of which it does not.
-#[tactic(auto, using(params::proofs::BoundLaws::bounds_hold))]
+#[tactic(auto, using(params::proofs::BoundLaws::bounds_hold, crate::proofs::ShapeLaws::lies_within))]
 fn each_list<'a, F: Fn(List<'a>) -> bool, B: Fn(Id, Level) -> Broken>(
     header: Header,
     links: &'a [u16],

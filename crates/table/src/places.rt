@@ -1,8 +1,10 @@
 // The rules R1 to R5, each at the first place at which it is broken.
-ghost use Rattle.std.specs.Prelude.{◌≡◌, ℕ, ◌*◌, ◌<◌, ◌≤◌, Bool, length};
+ghost use Rattle.std.specs.Prelude.{◌≡◌, ℕ, ◌+◌, ◌*◌, ◌<◌, ◌≤◌, Bool, length};
+ghost use Rattle.kinds.specs.declared.Id.{Id};
 ghost use Rattle.table.specs.declared.Broken.{Broken};
 ghost use Rattle.table.specs.First.{unless, each};
-ghost use Rattle.table.specs.Verdict.{verdict1, verdict2to5};
+ghost use Rattle.table.specs.Rules.{r5_row};
+ghost use Rattle.table.specs.Verdict.{id_of, verdict1, verdict2to5};
 
 use crate::{Broken, rules};
 use kinds::Id;
@@ -18,23 +20,36 @@ pub fn test_r1(header: Header) -> Result<(), Broken>
     }
 }
 
-// A rule at n places: it holds at each, or is broken at the first at which it does not.
-fn each<F: Fn(usize) -> bool, B: Fn(usize) -> Broken>(
-    n: usize,
+// A rule of the first n ids: it holds of each, or is broken by the first of which it does not.
+fn each_id<F: Fn(Id) -> bool, B: Fn(Id) -> Broken>(
+    n: u16,
     holds: F,
     broken: B,
 ) -> Result<(), Broken>
-    requires { (i : ℕ) → i < n → F.pre holds i × B.pre broken i }
-    ensures { (rule : ℕ → Bool) (told : ℕ → Broken) → ((i : ℕ) (b : Bool) → i < n → F.post holds i b → b ≡ rule i) → ((i : ℕ) (e : Broken) → i < n → B.post broken i e → e ≡ told i) → result ≡ each n (λ i. unless (rule i) (told i)) }
+    requires testable { (id : ℕ) → id < n → F.pre holds (id_of id) }
+    requires tellable { B.IsAlwaysCallable broken }
+    ensures { (rule : ℕ → Bool) (told : ℕ → Broken) → ((id : ℕ) (b : Bool) → id < n → F.post holds (id_of id) b → b ≡ rule id) → ((id : Id) (e : Broken) → B.post broken id e → e ≡ told id.0) → result ≡ each n (λ id. unless (rule id) (told id)) }
 {
-    for i in 0..n {
-        if !holds(i) {
-            return Err(broken(i));
+    for id in 0..n {
+        let id = Id(id);
+        if !holds(id) {
+            return Err(broken(id));
         }
     }
     Ok(())
 }
 
+// R5 at each coordinate of an id.
+fn coordinates_hold(header: Header, vectors: &[f32], id: Id) -> bool
+    requires { id.0 * header.dimension + header.dimension ≤ length vectors.now }
+    ensures { result ≡ r5_row header vectors.now id.0 }
+{
+    let dimension = header.dimension as usize;
+    let from = id.0 as usize * dimension;
+    (from..from + dimension).all(|j| rules::r5_holds(header, vectors, j))
+}
+
+#[tactic(auto, unfolding(crate::specs::Verdict::verdict2to5))]
 pub fn test_r2_to_r5(
     header: Header,
     vectors: &[f32],
@@ -47,22 +62,8 @@ pub fn test_r2_to_r5(
     if !rules::r2_holds(header) {
         return Err(Broken::R2);
     }
-    let n = header.params.max_item as usize;
-    let id = |i: usize| Id(i as u16);
-    each(
-        n,
-        |i| rules::r3_holds(header, levels, id(i)),
-        |i| Broken::R3(id(i)),
-    )?;
-    each(
-        n,
-        |i| rules::r4_holds(header, marks, id(i)),
-        |i| Broken::R4(id(i)),
-    )?;
-    let owner = |j: usize| id(j / header.dimension as usize);
-    each(
-        vectors.len(),
-        |j| rules::r5_holds(header, vectors, j),
-        |j| Broken::R5(owner(j)),
-    )
+    let n = header.params.max_item;
+    each_id(n, |id| rules::r3_holds(header, levels, id), Broken::R3)?;
+    each_id(n, |id| rules::r4_holds(header, marks, id), Broken::R4)?;
+    each_id(n, |id| coordinates_hold(header, vectors, id), Broken::R5)
 }

@@ -8,6 +8,7 @@ use kinds::{Id, Level};
 use params::HNSWParams;
 
 // Puts an id behind those that a list holds. The list has a free slot.
+#[tactic(auto, using(crate::proofs::WritingLaws::slots_under), unfolding(crate::specs::Layout::count_at, crate::specs::Layout::appended))]
 pub fn append(params: HNSWParams, links: &mut [u16], id: Id, level: Level, listed: Id)
     requires { HasList params links.old id.0 level.0 × (count_at params links.old id.0 level.0 < slots params level.0) }
     ensures { links.new ≡ appended params links.old id.0 level.0 listed.0 }

@@ -2,13 +2,8 @@
 use Rattle.std.proofs.Common.{true, refl, sym, ◌∙◌, arith}
 use borrow.Author.Count.{below_more}
 use Rattle.table.proofs.FirstLaws.{moved, lists_hold, list_breaks}
-use Rattle.table.proofs.ShapeLaws.{lies_within}
 use Rattle.table.proofs.owners.each_list.Goals as goal
 use Rattle.table.proofs.owners.each_list.Goals.{else-loop-level-test, then-loop-level-test+else-not-holds+else-level-level-end}
-
-pub invariant_of-list : goal.invariant_of-list
-invariant_of-list g c =
-    record { within = lies_within c.args.header c.args.links.now c.loop-id.id c.loop-level.level c.requires.whole c.loop-id-test.true c.loop-level-test.true }
 
 pub returns-then-not-holds : goal.returns-then-not-holds
 returns-then-not-holds g c rule told says tells =
