@@ -8,7 +8,7 @@ use kinds::{Id, Level};
 use params::Header;
 
 // The list of an id at a level, which lies within the table.
-#[derive(Clone, Copy)]
+#[derive(Clone, Copy, Debug)]
 pub struct List<'a> {
     pub header: Header,
     pub links: &'a [u16],
