@@ -26,7 +26,7 @@ impl PartialEq for Neighbor {
     ghost laws = { Prim.search (comparing, rules) };
 
     fn eq(&self, other: &Neighbor) -> bool {
-        Order::of(self.distance) == Order::of(other.distance)
+        Order::from(self.distance) == Order::from(other.distance)
     }
 }
 
@@ -54,6 +54,6 @@ impl Ord for Neighbor {
     ghost matches_eq = { Prim.search (comparing, rules) };
 
     fn cmp(&self, other: &Neighbor) -> Ordering {
-        Order::of(self.distance).cmp(&Order::of(other.distance))
+        Order::from(self.distance).cmp(&Order::from(other.distance))
     }
 }

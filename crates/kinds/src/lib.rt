@@ -17,12 +17,12 @@ pub struct Id(pub u16);
 #[derive(Clone, Copy, Debug, PartialEq, Eq, PartialOrd, Ord, Hash)]
 pub struct Level(pub u8);
 
-impl Order {
-    // Total: a NaN, which no distance is, counts as 0. No From, which would lose nothing: both zeros give 0.
+// Total: a NaN, which no distance is, counts as 0.
+impl From<f32> for Order {
+    ghost from_gives = { λ x order. order ≡ record { 0 = order_of x } };
+
     #[tactic(auto, unfolding(crate::specs::Order::order_of))]
-    pub fn of(x: f32) -> Order
-        ensures { result ≡ record { 0 = order_of x } }
-    {
+    fn from(x: f32) -> Order {
         if x.is_nan() {
             return Order(0);
         }
@@ -35,7 +35,9 @@ impl Order {
             Order(-magnitude)
         }
     }
+}
 
+impl Order {
     // The candidate heap's order, nearest on top. Of the 32-bit numbers only the least has no negation, and no float has it.
     pub fn negated(self) -> Order
         requires { FitsSigned w32 (neg_ℤ self.0) }

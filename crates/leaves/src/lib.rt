@@ -16,7 +16,7 @@ use metrics::Metric;
 pub extern "C" fn leaves_order(x: f32) -> i32
     ensures { result ≡ order_of x }
 {
-    Order::of(x).0
+    Order::from(x).0
 }
 
 // By the metric's number, as C gives it. Vectors of unequal length have no distance: the largest finite f32.

@@ -120,27 +120,69 @@ below_zero (suc m) e =
     let some = no_zero m e in
     rw (zero-mul (down e), mul-one (suc m * up e), lt-ltb 0 (suc m * up e + 0) (omega arith)) refl
 
-pub minus_cleared : (x : Float) → T (fits binary32 x) → le x (of_bits binary32 0) ≡ true → minus x ≡ cleared x
+pub minus_up_to_zero : (x : Float) → T (fits binary32 x) → le x (of_bits binary32 0) ≡ true → minus x ≡ cleared x
 unfolding sub add neg lt eq le cleared of_bits
-minus_cleared nan h t = refl
-minus_cleared (inf true) h t = refl
-minus_cleared (inf false) h t = cc
-minus_cleared (fin s zero e) h t = subst (λ (d : ℤ). minus (fin s 0 d) ≡ fin false 0 d) (sym (zero_exponent s e h)) (zero_from_zero s)
-minus_cleared (fin true (suc m) e) h t = zero_minus binary32 true m e h
-minus_cleared (fin false (suc m) e) h t = cc (above_zero m e)
+minus_up_to_zero nan h t = refl
+minus_up_to_zero (inf true) h t = refl
+minus_up_to_zero (inf false) h t = cc
+minus_up_to_zero (fin s zero e) h t = subst (λ (d : ℤ). minus (fin s 0 d) ≡ fin false 0 d) (sym (zero_exponent s e h)) (zero_from_zero s)
+minus_up_to_zero (fin true (suc m) e) h t = zero_minus binary32 true m e h
+minus_up_to_zero (fin false (suc m) e) h t = cc (above_zero m e)
 
-pub plus_cleared : (x : Float) → le x (of_bits binary32 0) ≡ false → x ≡ cleared x
+pub plus_above_zero : (x : Float) → le x (of_bits binary32 0) ≡ false → x ≡ cleared x
 unfolding le lt eq cleared of_bits
-plus_cleared nan t = refl
-plus_cleared (inf true) t = cc
-plus_cleared (inf false) t = refl
-plus_cleared (fin true m e) t = cc (below_zero m e)
-plus_cleared (fin false m e) t = refl
+plus_above_zero nan t = refl
+plus_above_zero (inf true) t = cc
+plus_above_zero (inf false) t = refl
+plus_above_zero (fin true m e) t = cc (below_zero m e)
+plus_above_zero (fin false m e) t = refl
 
 -- ---- the two ways out of a term of Manhattan's sum
 
 pub apart_minus : (x y : Float) → le (sub binary32 x y) (of_bits binary32 0) ≡ true → minus (sub binary32 x y) ≡ apart x y
-apart_minus x y h = minus_cleared (sub binary32 x y) (sub-fits binary32 x y) h
+apart_minus x y h = minus_up_to_zero (sub binary32 x y) (sub-fits binary32 x y) h
 
 pub apart_plus : (x y : Float) → le (sub binary32 x y) (of_bits binary32 0) ≡ false → sub binary32 x y ≡ apart x y
-apart_plus x y h = plus_cleared (sub binary32 x y) h
+apart_plus x y h = plus_above_zero (sub binary32 x y) h
+
+-- ---- the greater of x and 0.0 - x
+
+no : {P : Type 0} → false ≡ true → P
+no e = absurd (subst (λ (b : Bool). T (not b)) e tt)
+
+-- a zero is not less than a zero
+zero_zero : (s : Bool) → lt (minus (fin s 0 (pos 0))) (fin s 0 (pos 0)) ≡ false
+unfolding lt
+zero_zero true = ap (λ (y : Float). lt y (fin true 0 (pos 0))) (zero_from_zero true)
+zero_zero false = ap (λ (y : Float). lt y (fin false 0 (pos 0))) (zero_from_zero false)
+
+minus_less : (m : ℕ) (e : ℤ) → T (fits binary32 (fin false (suc m) e)) → lt (minus (fin false (suc m) e)) (fin false (suc m) e) ≡ true
+unfolding lt of_bits
+minus_less m e h =
+    let a = suc m * up e * down e in
+    let some : 0 < a = mul-pos (mul-pos {m = suc m} {n = up e} (omega arith) (up_pos e)) (down_pos e) in
+    ap (λ (y : Float). lt y (fin false (suc m) e)) (zero_minus binary32 false m e h) ∙ lt-ltb 0 (a + a) (omega arith)
+
+minus_not_less : (m : ℕ) (e : ℤ) → T (fits binary32 (fin true (suc m) e)) → lt (minus (fin true (suc m) e)) (fin true (suc m) e) ≡ false
+unfolding lt of_bits
+minus_not_less m e h = ap (λ (y : Float). lt y (fin true (suc m) e)) (zero_minus binary32 true m e h)
+
+pub plus_cleared : (x : Float) → T (fits binary32 x) → lt (minus x) x ≡ true → x ≡ cleared x
+unfolding sub add neg lt cleared of_bits
+plus_cleared nan h t = no t
+plus_cleared (inf true) h t = no t
+plus_cleared (inf false) h t = refl
+plus_cleared (fin s zero e) h t =
+    let z : lt (minus (fin s 0 e)) (fin s 0 e) ≡ false = subst (λ (d : ℤ). lt (minus (fin s 0 d)) (fin s 0 d) ≡ false) (sym (zero_exponent s e h)) (zero_zero s) in
+    no (sym z ∙ t)
+plus_cleared (fin true (suc m) e) h t = no (sym (minus_not_less m e h) ∙ t)
+plus_cleared (fin false (suc m) e) h t = refl
+
+pub minus_cleared : (x : Float) → T (fits binary32 x) → lt (minus x) x ≡ false → minus x ≡ cleared x
+unfolding sub add neg lt cleared of_bits
+minus_cleared nan h t = refl
+minus_cleared (inf true) h t = refl
+minus_cleared (inf false) h t = no (sym t)
+minus_cleared (fin s zero e) h t = subst (λ (d : ℤ). minus (fin s 0 d) ≡ fin false 0 d) (sym (zero_exponent s e h)) (zero_from_zero s)
+minus_cleared (fin true (suc m) e) h t = zero_minus binary32 true m e h
+minus_cleared (fin false (suc m) e) h t = no (sym t ∙ minus_less m e h)

@@ -1,3 +1,4 @@
+pub mod ChainLaws
 pub mod CutLaws
 pub mod ExactLaws
 pub mod DistanceLaws

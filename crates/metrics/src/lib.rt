@@ -16,9 +16,8 @@ use euclidean::euclidean_distance;
 use manhattan::manhattan_distance;
 
 // In hora's order, which is that of their numbers. CosineSimilarity and Angular have a number and no distance here.
-#[derive(Clone, Copy, Debug, Default, PartialEq, Eq, Hash)]
+#[derive(Clone, Copy, Debug, PartialEq, Eq, Hash)]
 pub enum Metric {
-    #[default]
     Unknown,
     Manhattan,
     DotProduct,
@@ -28,7 +27,7 @@ pub enum Metric {
 }
 
 // A distance is always finite.
-#[derive(Clone, Copy, Debug, PartialEq, PartialOrd)]
+#[derive(Clone, Copy, Debug, PartialEq)]
 pub struct Distance {
     pub value: f32,
 }

@@ -9,7 +9,7 @@ impl Term for Apart {
     ghost term = { apart };
 
     // The difference with its sign bit cleared. Taking d from +0.0 rounds nothing, and gives +0.0 for either zero, where -d would
-    // give -0.0 for one. `abs` promises the same, but makes two tests, and the kernel took up to 1.2 times as long.
+    // give -0.0 for one. `abs` promises the same, but makes two tests, and the kernel took 1.10 to 1.27 times as long.
     #[tactic(auto, using(crate::proofs::ExactLaws::apart_minus, crate::proofs::ExactLaws::apart_plus))]
     fn of(x: f32, y: f32) -> f32 {
         let d = x - y;

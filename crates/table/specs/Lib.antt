@@ -3,3 +3,4 @@ pub mod Layout
 pub mod Rules
 pub mod Verdict
 pub mod Passing
+pub mod Told

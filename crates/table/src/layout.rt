@@ -1,4 +1,4 @@
-// Where things stand in the four tables.
+// Where things stand in the four tables, which are flat, as 01 lends them: no heap, fixed memory.
 ghost use Rattle.std.specs.Prelude.{◌≡◌, ◌<◌, ◌^◌};
 ghost use Rattle.table.specs.Layout.{block, slots, list_start, lengths_hold};
 
@@ -24,7 +24,8 @@ pub fn slots_len(params: HNSWParams, level: Level) -> usize
     }
 }
 
-// Where a list's count stands; its slots stand behind it.
+// Where a list's count stands; its slots stand behind it. Id and level come one by one, here and elsewhere: a pair of them would be
+// made at each call and taken apart again.
 #[tactic(auto, unfolding(crate::specs::Layout::list_start))]
 pub fn list_start(params: HNSWParams, id: Id, level: Level) -> usize
     ensures { result ≡ list_start params id.0 level.0 }

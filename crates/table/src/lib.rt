@@ -8,7 +8,8 @@ pub mod places;
 pub mod rules;
 pub mod writing;
 
-ghost use Rattle.std.specs.Prelude.{◌≡◌, true, length};
+ghost use Rattle.std.specs.Prelude.{◌≡◌, true, length, Some};
+ghost use Rattle.table.specs.Told.{text_of};
 ghost use Rattle.params.specs.Bounds.{within_bounds};
 ghost use Rattle.table.specs.Layout.{lengths_hold};
 ghost use Rattle.table.specs.Verdict.{verdict_of};
@@ -32,42 +33,51 @@ pub enum Broken {
     R9(Id, Level),
 }
 
-impl Broken {
-    fn reason(self) -> &'static str {
-        match self {
-            Broken::R1 => "more ids are built than added, or added than there is room for",
-            Broken::R2 => "the metric is unknown, or unset although ids are built",
-            Broken::R3(_) => "its level is not one that it may have",
-            Broken::R4(_) => "its mark is not one that it may have",
-            Broken::R5(_) => "a coordinate is not finite, or not zero before the id is added",
-            Broken::R6(_, _) => "the list's count is above its slots, or no list may be here",
-            Broken::R7(_, _) => "a slot past the list's count is not zero",
-            Broken::R8(_, _) => "the list holds its owner, or an id not built or not that high",
-            Broken::R9(_, _) => "the list holds an id twice",
-        }
-    }
-}
-
 impl fmt::Display for Broken {
+    ghost output = { λ broken. Some (text_of broken) };
+
     fn fmt<W: fmt::Write>(&self, f: &mut fmt::Formatter<W>) -> fmt::Result {
-        let why = self.reason();
         match self {
-            Broken::R1 => write!(f, "R1: {why}"),
-            Broken::R2 => write!(f, "R2: {why}"),
-            Broken::R3(id) => write!(f, "R3: id {}: {why}", id.0),
-            Broken::R4(id) => write!(f, "R4: id {}: {why}", id.0),
-            Broken::R5(id) => write!(f, "R5: id {}: {why}", id.0),
-            Broken::R6(id, level) => write!(f, "R6: id {}, level {}: {why}", id.0, level.0),
-            Broken::R7(id, level) => write!(f, "R7: id {}, level {}: {why}", id.0, level.0),
-            Broken::R8(id, level) => write!(f, "R8: id {}, level {}: {why}", id.0, level.0),
-            Broken::R9(id, level) => write!(f, "R9: id {}, level {}: {why}", id.0, level.0),
+            Broken::R1 => f.write_str(
+                "R1: more ids are built than added, or added than there is room for",
+            ),
+            Broken::R2 => f.write_str(
+                "R2: the metric's number is above 3, or 0 although ids are built",
+            ),
+            Broken::R3(id) => write!(f, "R3: id {}: its level is not one that it may have", id.0),
+            Broken::R4(id) => write!(f, "R4: id {}: its mark is not one that it may have", id.0),
+            Broken::R5(id) => write!(
+                f,
+                "R5: id {}: a coordinate is not finite, or not zero before the id is added",
+                id.0
+            ),
+            Broken::R6(id, level) => write!(
+                f,
+                "R6: id {}, level {}: the list's count is above its slots, or no list may be here",
+                id.0, level.0
+            ),
+            Broken::R7(id, level) => write!(
+                f,
+                "R7: id {}, level {}: a slot past the list's count is not zero",
+                id.0, level.0
+            ),
+            Broken::R8(id, level) => write!(
+                f,
+                "R8: id {}, level {}: the list holds its owner, or an id not built or not that high",
+                id.0, level.0
+            ),
+            Broken::R9(id, level) => write!(
+                f,
+                "R9: id {}, level {}: the list holds an id twice",
+                id.0, level.0
+            ),
         }
     }
 }
 
 impl Error for Broken {}
 
-// The rules R1 to R9 in their order. Bounds and lengths are tested before.
+// The rules R1 to R9 in their order. Bounds and lengths are tested before. A header by value beside lent tables, as 01 has it.
 #[tactic(auto, using(params::proofs::BoundLaws::bounds_hold, crate::proofs::ShapeLaws::lengths_are), unfolding(crate::specs::Verdict::verdict_of))]
 pub fn test(
     header: Header,

@@ -1,7 +1,7 @@
 // A list of the link table, and the rules R6 to R9, each as a test of one list.
-ghost use Rattle.std.specs.Prelude.{◌≡◌, ℕ, ◌<◌, ◌≤◌, length};
+ghost use Rattle.std.specs.Prelude.{◌≡◌, ◌<◌, ◌≤◌, length};
 ghost use Rattle.table.specs.Layout.{HasList, count_at, slots_at, list_at, slack_at};
-ghost use Rattle.table.specs.Rules.{r6, r7, r8, r9, is_nothing, may_list, distinct};
+ghost use Rattle.table.specs.Rules.{r6, r7, r8, r9, may_list, distinct};
 
 use crate::layout;
 use kinds::{Id, Level};
@@ -59,8 +59,8 @@ impl<'a> List<'a> {
         ensures { result ≡ r6 self.entry.header levels.now self.entry.links.now self.entry.id.0 self.entry.level.0 }
     {
         let count = self.count();
-        let may_hold = self.id.0 < self.header.built && self.level.0 <= levels[self.id.0 as usize];
-        count <= layout::slots_len(self.header.params, self.level) && (may_hold || count == 0)
+        let has_list = self.id.0 < self.header.built && self.level.0 <= levels[self.id.0 as usize];
+        count <= layout::slots_len(self.header.params, self.level) && (has_list || count == 0)
     }
 
     #[tactic(auto, unfolding(crate::specs::Rules::r7))]

@@ -1,5 +1,5 @@
 // The rules R6 to R9, each at the first list that breaks it: by owner, then by level.
-ghost use Rattle.std.specs.Prelude.{◌≡◌, ℕ, ◌+◌, ◌*◌, ◌<◌, ◌≤◌, Bool, true, length};
+ghost use Rattle.std.specs.Prelude.{◌≡◌, ℕ, ◌*◌, ◌<◌, Bool, true, length};
 ghost use Rattle.params.specs.Bounds.{within_bounds};
 ghost use Rattle.kinds.specs.declared.Id.{Id};
 ghost use Rattle.kinds.specs.declared.Level.{Level};
@@ -13,7 +13,7 @@ use crate::lists::List;
 use kinds::{Id, Level};
 use params::Header;
 
-// A rule of all lists: it holds of each, or is broken by the first of which it does not.
+// A rule of all lists: it holds of each, or is broken by the first of which it does not. `each_id` could not tell the level.
 #[tactic(auto, using(params::proofs::BoundLaws::bounds_hold, crate::proofs::ShapeLaws::lies_within))]
 fn each_list<'a, F: Fn(List<'a>) -> bool, B: Fn(Id, Level) -> Broken>(
     header: Header,

@@ -1,5 +1,5 @@
 // The rules R1 to R5, each as a test at one place.
-ghost use Rattle.std.specs.Prelude.{◌≡◌, ℕ, ◌+◌, ◌*◌, ◌<◌, ◌≤◌, length};
+ghost use Rattle.std.specs.Prelude.{◌≡◌, ◌*◌, ◌<◌, length};
 ghost use Rattle.std.specs.Float.Ieee.Scale.{finite};
 ghost use Rattle.table.specs.Rules.{r1, r2, r3, r4, r5, is_zero};
 
@@ -12,6 +12,7 @@ pub fn r1_holds(header: Header) -> bool
     header.built <= header.added && header.added <= header.params.max_item
 }
 
+// The metric's number, as the header has it: 3 is Euclidean's.
 pub fn r2_holds(header: Header) -> bool
     ensures { result ≡ r2 header }
 {
@@ -32,6 +33,7 @@ pub fn r3_holds(header: Header, levels: &[u8], id: Id) -> bool
     }
 }
 
+// Marks are bytes, as 01 lends them.
 #[tactic(auto, unfolding(crate::specs::Rules::r4))]
 pub fn r4_holds(header: Header, marks: &[u8], id: Id) -> bool
     requires { id.0 < length marks.now }
