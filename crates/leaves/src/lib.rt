@@ -19,7 +19,8 @@ pub extern "C" fn leaves_order(x: f32) -> i32
     Order::from(x).0
 }
 
-// By the metric's number, as C gives it. Vectors of unequal length have no distance: the largest finite f32.
+// By the metric's number, and with a number for "no distance", since C has no Metric and no Option: vectors of unequal length give the
+// largest finite f32.
 #[unsafe(no_mangle)]
 pub extern "C" fn leaves_distance(metric: u16, a: &[f32], b: &[f32]) -> f32
     ensures { result ≡ distance_or_largest (metric_of metric) a.now b.now }

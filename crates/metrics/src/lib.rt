@@ -57,7 +57,7 @@ impl From<u16> for Metric {
 }
 
 impl Metric {
-    // Before the cut. A metric that has no kernel here has no distance: NaN.
+    // Before the cut. A metric that has no kernel here has no distance: NaN, as the definition `measured` has it.
     #[tactic(auto, using(crate::proofs::CutLaws::nan_is))]
     fn measured(self, a: &[f32], b: &[f32]) -> f32
         ensures { result ≡ measured self a.now b.now }

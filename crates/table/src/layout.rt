@@ -1,4 +1,4 @@
-// Where things stand in the four tables, which are flat, as 01 lends them: no heap, fixed memory.
+// Where things stand in the four tables, which are flat, as 01 lends them.
 ghost use Rattle.std.specs.Prelude.{◌≡◌, ◌<◌, ◌^◌};
 ghost use Rattle.table.specs.Layout.{block, slots, list_start, lengths_hold};
 

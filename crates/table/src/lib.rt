@@ -77,7 +77,8 @@ impl fmt::Display for Broken {
 
 impl Error for Broken {}
 
-// The rules R1 to R9 in their order. Bounds and lengths are tested before. A header by value beside lent tables, as 01 has it.
+// The rules R1 to R9 in their order. Bounds and lengths are tested before. The header comes by value beside
+// lent tables, of which vectors, levels and marks are parallel by id: so 01 has it.
 #[tactic(auto, using(params::proofs::BoundLaws::bounds_hold, crate::proofs::ShapeLaws::lengths_are), unfolding(crate::specs::Verdict::verdict_of))]
 pub fn test(
     header: Header,

@@ -1,4 +1,5 @@
-// The rules R6 to R9, each at the first list that breaks it: by owner, then by level.
+// The rules R6 to R9, each at the first list that breaks it: by owner, then by level. The header comes by value beside lent tables,
+// as 01 has it.
 ghost use Rattle.std.specs.Prelude.{◌≡◌, ℕ, ◌*◌, ◌<◌, Bool, true, length};
 ghost use Rattle.params.specs.Bounds.{within_bounds};
 ghost use Rattle.kinds.specs.declared.Id.{Id};

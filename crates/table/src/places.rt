@@ -1,4 +1,4 @@
-// The rules R1 to R5, each at the first place at which it is broken.
+// The rules R1 to R5, each at the first place at which it is broken. The header comes by value beside lent tables, as 01 has it.
 ghost use Rattle.std.specs.Prelude.{◌≡◌, ℕ, ◌+◌, ◌*◌, ◌<◌, ◌≤◌, Bool, length};
 ghost use Rattle.kinds.specs.declared.Id.{Id};
 ghost use Rattle.table.specs.declared.Broken.{Broken};

@@ -1,4 +1,4 @@
-// The rules R1 to R5, each as a test at one place.
+// The rules R1 to R5, each as a test at one place. The header comes by value beside lent tables, as 01 has it.
 ghost use Rattle.std.specs.Prelude.{◌≡◌, ◌*◌, ◌<◌, length};
 ghost use Rattle.std.specs.Float.Ieee.Scale.{finite};
 ghost use Rattle.table.specs.Rules.{r1, r2, r3, r4, r5, is_zero};
