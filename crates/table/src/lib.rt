@@ -94,3 +94,62 @@ pub fn test(
     places::test_r2_to_r5(header, vectors, levels, marks)?;
     owners::test_r6_to_r9(header, levels, links)
 }
+
+#[cfg(test)]
+mod tests {
+    use super::*;
+    use std::test::Fail;
+
+    const ID: Id = Id(4095);
+
+    const LEVEL: Level = Level(20);
+
+    const TOLD: [(Broken, &str); 9] = [
+        (
+            Broken::R1,
+            "R1: more ids are built than added, or added than there is room for",
+        ),
+        (
+            Broken::R2,
+            "R2: the metric's number is above 3, or 0 although ids are built",
+        ),
+        (
+            Broken::R3(ID),
+            "R3: id 4095: its level is not one that it may have",
+        ),
+        (
+            Broken::R4(ID),
+            "R4: id 4095: its mark is not one that it may have",
+        ),
+        (
+            Broken::R5(ID),
+            "R5: id 4095: a coordinate is not finite, or not zero before the id is added",
+        ),
+        (
+            Broken::R6(ID, LEVEL),
+            "R6: id 4095, level 20: the list's count is above its slots, or no list may be here",
+        ),
+        (
+            Broken::R7(ID, LEVEL),
+            "R7: id 4095, level 20: a slot past the list's count is not zero",
+        ),
+        (
+            Broken::R8(ID, LEVEL),
+            "R8: id 4095, level 20: the list holds its owner, or an id not built or not that high",
+        ),
+        (
+            Broken::R9(ID, LEVEL),
+            "R9: id 4095, level 20: the list holds an id twice",
+        ),
+    ];
+
+    // The contract says what is printed where printing succeeds. That it does is run.
+    #[test]
+    fn a_broken_rule_is_printed(rt: HostRuntime) -> Result<(), Fail> {
+        for (broken, text) in TOLD {
+            let printed = format!(in rt.alloc(); "{broken}")?;
+            assert_eq!(rt; printed.as_str(), text);
+        }
+        Ok(())
+    }
+}
