@@ -1,4 +1,5 @@
 pub mod ChainLaws
+pub mod StepLaws
 pub mod CutLaws
 pub mod ExactLaws
 pub mod DistanceLaws
