@@ -1,3 +1,5 @@
+pub mod Products
+pub mod Parts
 pub mod Coordinates
 pub mod FirstLaws
 pub mod ShapeLaws

@@ -1,11 +1,11 @@
 -- A list's slots: the ids, and nothing behind them. Assumes nothing.
 use mathlib.Core.Path.{◌≡◌, refl, sym, ap, ◌∙◌}
-use Prim.Native.Nat.{ℕ, zero, suc, ◌+◌, ◌-◌, ◌≤◌}
+use Prim.Native.Nat.{ℕ, zero, suc, ◌+◌, ◌-◌, ◌≤◌, ◌<◌}
 use native.Mathlib.Nat.{le_of_suc-le-suc, not-suc-le-zero}
 use native.Mathlib.Omega.{arith}
 use mathlib.Core.Bool.{true}
 use mathlib.Core.List.{List, [], ◌∷◌, ◌++◌, append_assoc}
-use lib.ListN.{length, set, take, drop, replicate, length-take, length-drop, length-append}
+use lib.ListN.{length, get_or, set, take, drop, replicate, length-take, length-drop, length-append}
 use borrow.Rule.Slice.PartMut.{mid_of, put_mid}
 use lib.Seq.{take-suc-set, take-set-lt, drop-drop, set-append_left, take-append_seam, drop-append_seam}
 use Rattle.params.specs.declared.HNSWParams.{HNSWParams}
@@ -13,11 +13,24 @@ use Rattle.table.specs.Layout.{slots, list_start, HasList, padded, replaced}
 use Rattle.std.specs.List.{list_all}
 use Rattle.table.specs.Rules.{is_nothing}
 
+pub past_end : (xs : List ℕ) (j : ℕ) → length xs ≤ j → get_or xs j 0 ≡ 0
+past_end [] j h = refl
+past_end (x ∷ xs) zero h = absurd (not-suc-le-zero h)
+past_end (x ∷ xs) (suc j) h = past_end xs j (le_of_suc-le-suc h)
+
 pub length-padded : (n : ℕ) (ids : List ℕ) → length (padded n ids) ≡ n
 unfolding padded
 length-padded zero ids = refl
 length-padded (suc n) [] = ap suc (length-padded n [])
 length-padded (suc n) (x ∷ ids) = ap suc (length-padded n ids)
+
+pub padded_at : (n : ℕ) (ids : List ℕ) (j : ℕ) → j < n → get_or (padded n ids) j 0 ≡ get_or ids j 0
+unfolding padded
+padded_at zero ids j h = absurd (not-suc-le-zero h)
+padded_at (suc n) [] zero h = refl
+padded_at (suc n) [] (suc j) h = padded_at n [] j (le_of_suc-le-suc h)
+padded_at (suc n) (x ∷ ids) zero h = refl
+padded_at (suc n) (x ∷ ids) (suc j) h = padded_at n ids j (le_of_suc-le-suc h)
 
 padded_nothing : (n : ℕ) → replicate n 0 ≡ padded n []
 unfolding padded

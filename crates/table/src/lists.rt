@@ -96,6 +96,8 @@ impl<'a> List<'a> {
     }
 }
 
+// Not inlined, so that `r9_holds` is: else a whole `List` would be written out for each list of a table.
+#[inline(never)]
 #[tactic(auto, unfolding(crate::specs::Rules::distinct))]
 fn is_distinct(list: &[u16]) -> bool
     ensures { result ≡ distinct list.now }
