@@ -10,13 +10,12 @@ use borrow.Rule.Slice.PartMut.{mid_of, put_mid}
 use lib.Seq.{take-suc-set, take-set-lt, drop-drop, set-append_left, take-append_seam, drop-append_seam}
 use Rattle.params.specs.declared.HNSWParams.{HNSWParams}
 use Rattle.table.specs.Layout.{slots, list_start, HasList, padded, replaced}
+use Rattle.std.proofs.lemmas.List.{get_or_past}
 use Rattle.std.specs.List.{list_all}
 use Rattle.table.specs.Rules.{is_nothing}
 
 pub past_end : (xs : List ℕ) (j : ℕ) → length xs ≤ j → get_or xs j 0 ≡ 0
-past_end [] j h = refl
-past_end (x ∷ xs) zero h = absurd (not-suc-le-zero h)
-past_end (x ∷ xs) (suc j) h = past_end xs j (le_of_suc-le-suc h)
+past_end xs j h = get_or_past xs j 0 h
 
 pub length-padded : (n : ℕ) (ids : List ℕ) → length (padded n ids) ≡ n
 unfolding padded
